@@ -22,10 +22,8 @@ use Rattle.inference.specs.Search.{Agreed, resolve_all, join_all, all_into, agre
 use Rattle.inference.proofs.Invariant.{sorts_only_refl}
 use Rattle.inference.proofs.MakingSorts.{MadeSorts, NoDefault, StandAll, stand_below, resolve_all_makes}
 use Rattle.search_state.specs.declared.Branch.{Branch}
-use Rattle.search_state.specs.declared.Made.{Made}
-use Rattle.search_state.specs.declared.Made.TheVariants.{At as Is, Nothing as NoSort, Full as NoRoom}
-use Rattle.search_state.specs.declared.Extracted.{Extracted}
-use Rattle.search_state.specs.declared.Extracted.TheVariants.{All, Nothing as Without, Full as NotAll}
+use Rattle.std.specs.Prelude.{Option, Some, None, Result, Ok, Err}
+use Rattle.resolved_sort.specs.declared.NoRoom.{NoRoom}
 use Rattle.search_state.specs.Inner.Memory.{source_at, measure_at, scratch_used}
 use Rattle.words.specs.Words.{part}
 use Rattle.search_state.specs.Inner.Leaves.{ChangedOnly, made_of, AgreesOn, extracted_of}
@@ -65,7 +63,7 @@ module _ (ws : List ℕ) (k : Lengths) (ids : List ℕ) (m : ℕ) (sc : List ℕ
   long : m ≤ length ids
   long = asked.0.there
 
-  pub nothing_agrees : m ≡ 0 → (ns : List ℕ) → AgreesOn ns sc e m (agreed (take m ids) (lent ws ns k)) ws sc (NoSort k)
+  pub nothing_agrees : m ≡ 0 → (ns : List ℕ) → AgreesOn ns sc e m (agreed (take m ids) (lent ws ns k)) ws sc k (Ok None)
   unfolding agreed
   nothing_agrees z ns = record {
     says = ap (λ (n : ℕ). agreed (take n ids) (lent ws ns k)) (sym z);
@@ -86,22 +84,22 @@ module _ (ws : List ℕ) (k : Lengths) (ids : List ℕ) (m : ℕ) (sc : List ℕ
         ap (λ ss. join_all (get_or ids 0 0) (drop 1 (take m ids)) W and-then (λ j U. agreed_by U ss j)) (firsts_left ids m long 0 some_left)
         ∙ ap (λ ss. agreed ss W) (sym (firsts_left ids m long 0 some_left))
 
-    module _ (vs : List ℕ) (r : Made) (er : (ns : List ℕ) → made_of vs ns r ≡ join_all (get_or ids 0 0) (drop 1 (take m ids)) (lent ws ns k)) where
-      by : (x : Made) → r ≡ x → (ns : List ℕ) → by_join (made_of vs ns x) ≡ agreed (take m ids) (lent ws ns k)
+    module _ (vs : List ℕ) (l : Lengths) (r : Result (Option SortId) NoRoom) (er : (ns : List ℕ) → made_of vs ns l r ≡ join_all (get_or ids 0 0) (drop 1 (take m ids)) (lent ws ns k)) where
+      by : (x : Result (Option SortId) NoRoom) → r ≡ x → (ns : List ℕ) → by_join (made_of vs ns l x) ≡ agreed (take m ids) (lent ws ns k)
       by x z ns =
-          ap (λ y. by_join (made_of vs ns y)) (sym z) ∙ (ap by_join (er ns) ∙ agreed_first (lent ws ns k))
+          ap (λ y. by_join (made_of vs ns l y)) (sym z) ∙ (ap by_join (er ns) ∙ agreed_first (lent ws ns k))
 
-      pub join_stops : (l : Lengths) → r ≡ NoSort l → (ns : List ℕ) → AgreesOn ns sc e m (agreed (take m ids) (lent ws ns k)) vs sc (NoSort l)
-      join_stops l z ns = record { says = by (NoSort l) z ns; changed = unchanged sc (measure_at + e.measure) (measure_at + e.measure + m) }
+      pub join_stops : r ≡ Ok None → (ns : List ℕ) → AgreesOn ns sc e m (agreed (take m ids) (lent ws ns k)) vs sc l (Ok None)
+      join_stops z ns = record { says = by (Ok None) z ns; changed = unchanged sc (measure_at + e.measure) (measure_at + e.measure + m) }
 
-      pub join_ends : (l : Lengths) → r ≡ NoRoom l → (ns : List ℕ) → AgreesOn ns sc e m (agreed (take m ids) (lent ws ns k)) vs sc (NoRoom l)
-      join_ends l z ns = record { says = by (NoRoom l) z ns; changed = unchanged sc (measure_at + e.measure) (measure_at + e.measure + m) }
+      pub join_ends : (x : NoRoom) → r ≡ Err x → (ns : List ℕ) → AgreesOn ns sc e m (agreed (take m ids) (lent ws ns k)) vs sc l (Err x)
+      join_ends x z ns = record { says = by (Err x) z ns; changed = unchanged sc (measure_at + e.measure) (measure_at + e.measure + m) }
 
-      module _ (c : SortId) (l : Lengths) (z : r ≡ Is c l) where
+      module _ (c : SortId) (z : r ≡ Ok (Some c)) where
         left : LeavesSort (lent ws [] k) (made c.0 (lent vs [] l))
         unfolding AllBelow
         left =
-            subst (LeavesSort (lent ws [] k)) (sym (er []) ∙ ap (made_of vs []) z)
+            subst (LeavesSort (lent ws [] k)) (sym (er []) ∙ ap (made_of vs [] l) z)
             (joins_leave (drop 1 (take m ids)) (lent ws [] k) (get_or ids 0 0) asked.0.checked (first_below ids m
             long 0 some_left k.sorts asked.0.below) others)
           where
@@ -119,13 +117,13 @@ module _ (ws : List ℕ) (k : Lengths) (ids : List ℕ) (m : ℕ) (sc : List ℕ
           by_test : (x : Bool) → b ≡ x → (ns : List ℕ) → cond x (made (record { sort = c.0; components = heads })
               (lent vs ns l)) (no_list (lent vs ns l)) ≡ agreed (take m ids) (lent ws ns k)
           by_test x f ns =
-              ap (λ y. cond y (made (record { sort = c.0; components = heads }) (lent vs ns l)) (no_list (lent vs ns l))) (sym f ∙ eb ns) ∙ by (Is c l) z ns
+              ap (λ y. cond y (made (record { sort = c.0; components = heads }) (lent vs ns l)) (no_list (lent vs ns l))) (sym f ∙ eb ns) ∙ by (Ok (Some c)) z ns
 
-          pub not_materializable : b ≡ false → (ns : List ℕ) → AgreesOn ns sc e m (agreed (take m ids) (lent ws ns k)) vs sc (NoSort l)
+          pub not_materializable : b ≡ false → (ns : List ℕ) → AgreesOn ns sc e m (agreed (take m ids) (lent ws ns k)) vs sc l (Ok None)
           not_materializable f ns = record { says = by_test false f ns; changed = unchanged sc (measure_at + e.measure) (measure_at + e.measure + m) }
 
           pub they_agree : b ≡ true → (sc' : List ℕ) → sc' ≡ sets sc (measure_at + e.measure) heads
-              → (ns : List ℕ) → AgreesOn ns sc e m (agreed (take m ids) (lent ws ns k)) vs sc' (Is c l)
+              → (ns : List ℕ) → AgreesOn ns sc e m (agreed (take m ids) (lent ws ns k)) vs sc' l (Ok (Some c))
           they_agree f sc' es ns =
               let many : length heads ≡ m = length_each (head_to vs l.sorts c.0) (take m ids) ∙ length_first ids m long in
               record {
@@ -148,18 +146,18 @@ module _ (ws ns bs sc ls : List ℕ) (k : Lengths) (e : Branch) (run : Run) (ask
   abbrev ps : List ℕ
   ps = rows_from (source_at ls) run.start run.count
 
-  module _ (vs ids : List ℕ) (r : Extracted) (er : extracted_of vs ns ids 0 run.count r ≡ resolve_all Nothing B ps W) where
-    by_sources : (x : Extracted) → r ≡ x → extracted_of vs ns ids 0 run.count x and-then agreed ≡ join_of B ps W
+  module _ (vs ids : List ℕ) (l : Lengths) (r : Result Bool NoRoom) (er : extracted_of vs ns ids 0 run.count l r ≡ resolve_all Nothing B ps W) where
+    by_sources : (x : Result Bool NoRoom) → r ≡ x → extracted_of vs ns ids 0 run.count l x and-then agreed ≡ join_of B ps W
     unfolding join_of
-    by_sources x z = ap (λ O. O and-then agreed) (ap (extracted_of vs ns ids 0 run.count) (sym z) ∙ er)
+    by_sources x z = ap (λ O. O and-then agreed) (ap (extracted_of vs ns ids 0 run.count l) (sym z) ∙ er)
 
-    pub sources_stop : (l : Lengths) → r ≡ Without l → AgreesOn ns sc e run.count (join_of B ps W) vs sc (NoSort l)
-    sources_stop l z = record { says = by_sources (Without l) z; changed = unchanged sc (measure_at + e.measure) (measure_at + e.measure + run.count) }
+    pub sources_stop : r ≡ Ok false → AgreesOn ns sc e run.count (join_of B ps W) vs sc l (Ok None)
+    sources_stop z = record { says = by_sources (Ok false) z; changed = unchanged sc (measure_at + e.measure) (measure_at + e.measure + run.count) }
 
-    pub sources_end : (l : Lengths) → r ≡ NotAll l → AgreesOn ns sc e run.count (join_of B ps W) vs sc (NoRoom l)
-    sources_end l z = record { says = by_sources (NotAll l) z; changed = unchanged sc (measure_at + e.measure) (measure_at + e.measure + run.count) }
+    pub sources_end : (x : NoRoom) → r ≡ Err x → AgreesOn ns sc e run.count (join_of B ps W) vs sc l (Err x)
+    sources_end x z = record { says = by_sources (Err x) z; changed = unchanged sc (measure_at + e.measure) (measure_at + e.measure + run.count) }
 
-    module _ (len : length ids ≡ max_sources) (l : Lengths) (z : r ≡ All l) where
+    module _ (len : length ids ≡ max_sources) (z : r ≡ Ok true) where
       pub resolved : Resolved vs l ids run.count × (scratch_used ≤ length sc) × (e.measure + run.count ≤ max_components)
       unfolding MadeSorts
       resolved = (
@@ -174,10 +172,15 @@ module _ (ws ns bs sc ls : List ℕ) (k : Lengths) (e : Branch) (run : Run) (ask
         where
           made_sorts : MadeSorts (λ U ss. StandAll W B Nothing U ps ss) (NoDefault Nothing) W (made (take run.count ids) (lent vs ns l))
           made_sorts =
-              subst (MadeSorts (λ U ss. StandAll W B Nothing U ps ss) (NoDefault Nothing) W) (sym er ∙ ap (extracted_of vs ns ids 0 run.count) z)
+              subst (MadeSorts (λ U ss. StandAll W B Nothing U ps ss) (NoDefault Nothing) W) (sym er ∙ ap (extracted_of vs ns ids 0 run.count l) z)
               (resolve_all_makes W asked.ready.nodes B asked.ready.binds Nothing tt ps asked.placed W (sorts_only_refl W asked.ready.nodes))
 
-      pub sources_agree : (us sc' : List ℕ) (x : Made)
-          → ((os : List ℕ) → AgreesOn os sc e run.count (agreed (take run.count ids) (lent vs os l)) us sc' x)
-          → AgreesOn ns sc e run.count (join_of B ps W) us sc' x
-      sources_agree us sc' x a = subst (λ O. AgreesOn ns sc e run.count O us sc' x) (by_sources (All l) z) (a ns)
+      pub sources_agree : (us sc' : List ℕ) (l' : Lengths) (x : Result (Option SortId) NoRoom)
+          → ((os : List ℕ) → AgreesOn os sc e run.count (agreed (take run.count ids) (lent vs os l)) us sc' l' x)
+          → AgreesOn ns sc e run.count (join_of B ps W) us sc' l' x
+      sources_agree us sc' l' x a = subst (λ O. AgreesOn ns sc e run.count O us sc' l' x) (by_sources (Ok true) z) (a ns)
+
+-- the same, from the words left as they were
+pub of_scratch : (sc sc' : List ℕ) → sc' ≡ sc → (ns : List ℕ) (e : Branch) (n : ℕ) (O : Makes Agreed) (ws' : List ℕ) (k' : Lengths)
+    (r : Result (Option SortId) NoRoom) → AgreesOn ns sc e n O ws' sc k' r → AgreesOn ns sc e n O ws' sc' k' r
+of_scratch sc sc' p ns e n O ws' k' r a = rw p a

@@ -27,8 +27,8 @@ use Rattle.unification.specs.declared.Lengths.{Lengths}
 use Rattle.unification.specs.Making.{Lent, Makes, made, no_list, no_room, ◌and-then◌}
 use Rattle.unification.specs.Inner.Making.{lent}
 use Rattle.inference.specs.Search.{makes_sort, join_in, join_all}
-use Rattle.search_state.specs.declared.Made.{Made}
-use Rattle.search_state.specs.declared.Made.TheVariants.{At as Is, Nothing as NoSort, Full as NoRoom}
+use Rattle.std.specs.Prelude.{Option, Some, None, Result, Ok, Err}
+use Rattle.resolved_sort.specs.declared.NoRoom.{NoRoom}
 use Rattle.search_state.specs.Inner.Leaves.{made_of}
 use Rattle.search_join.specs.Inner.Sources.{Resolved}
 use Rattle.search_join.proofs.Lists.{length_first, firsts_left, first_below}
@@ -141,20 +141,20 @@ module _ (ids : List ℕ) (m : ℕ) (ws₀ : List ℕ) (k₀ : Lengths) (ws : Li
       first ns =
           ap (λ x. join_in lub x (lent ws ns k) and-then rest) eb ∙ (ap (λ xs. join_all lub xs (lent ws ns k)) (sym (firsts_left ids m long i h)) ∙ G.same ns)
 
-      module _ (vs : List ℕ) (r : Made) (er : (ns : List ℕ) → made_of vs ns r ≡ join_in lub b (lent ws ns k)) where
-        by : (x : Made) → r ≡ x → (ns : List ℕ) → made_of vs ns x and-then rest ≡ join_all (get_or ids 0 0) (drop 1 (take m ids)) (lent ws₀ ns k₀)
-        by x z ns = ap (λ y. made_of vs ns y and-then rest) (sym z) ∙ (ap (λ O. O and-then rest) (er ns) ∙ first ns)
+      module _ (vs : List ℕ) (l : Lengths) (r : Result (Option SortId) NoRoom) (er : (ns : List ℕ) → made_of vs ns l r ≡ join_in lub b (lent ws ns k)) where
+        by : (x : Result (Option SortId) NoRoom) → r ≡ x → (ns : List ℕ) → made_of vs ns l x and-then rest ≡ join_all (get_or ids 0 0) (drop 1 (take m ids)) (lent ws₀ ns k₀)
+        by x z ns = ap (λ y. made_of vs ns l y and-then rest) (sym z) ∙ (ap (λ O. O and-then rest) (er ns) ∙ first ns)
 
-        pub stops : (l : Lengths) → r ≡ NoSort l → (ns : List ℕ) → made_of vs ns (NoSort l) ≡ join_all (get_or ids 0 0) (drop 1 (take m ids)) (lent ws₀ ns k₀)
-        stops l z = by (NoSort l) z
+        pub stops : r ≡ Ok None → (ns : List ℕ) → made_of vs ns l (Ok None) ≡ join_all (get_or ids 0 0) (drop 1 (take m ids)) (lent ws₀ ns k₀)
+        stops z = by (Ok None) z
 
-        pub ends : (l : Lengths) → r ≡ NoRoom l → (ns : List ℕ) → made_of vs ns (NoRoom l) ≡ join_all (get_or ids 0 0) (drop 1 (take m ids)) (lent ws₀ ns k₀)
-        ends l z = by (NoRoom l) z
+        pub ends : (x : NoRoom) → r ≡ Err x → (ns : List ℕ) → made_of vs ns l (Err x) ≡ join_all (get_or ids 0 0) (drop 1 (take m ids)) (lent ws₀ ns k₀)
+        ends x z = by (Err x) z
 
-        pub next : length vs ≡ length ws → (c : SortId) (l : Lengths) → r ≡ Is c l → Going ids m ws₀ k₀ vs c.0 l (i + 1)
-        next f c l z =
+        pub next : length vs ≡ length ws → (c : SortId) → r ≡ Ok (Some c) → Going ids m ws₀ k₀ vs c.0 l (i + 1)
+        next f c z =
             let x : LeavesSort (lent ws [] k) (made c.0 (lent vs [] l)) = subst (LeavesSort (lent ws [] k))
-            (sym (er []) ∙ ap (made_of vs []) z) (join_leaves (lent ws [] k) lub b asked) in
+            (sym (er []) ∙ ap (made_of vs [] l) z) (join_leaves (lent ws [] k) lub b asked) in
             record {
               within = omega (arith, h);
               long = f ∙ G.long;
@@ -165,11 +165,11 @@ module _ (ids : List ℕ) (m : ℕ) (ws₀ : List ℕ) (k₀ : Lengths) (ws : Li
                     (take m ids) x.2 G.resolved.below;
               };
               below = x.1;
-              same = by (Is c l) z;
+              same = by (Ok (Some c)) z;
             }
 
   -- no sort is left
-  pub all_joined : m ≤ i → (l : SortId) → l.0 ≡ lub → (ns : List ℕ) → made_of ws ns (Is l k) ≡ join_all (get_or ids 0 0) (drop 1 (take m ids)) (lent ws₀ ns k₀)
+  pub all_joined : m ≤ i → (l : SortId) → l.0 ≡ lub → (ns : List ℕ) → made_of ws ns k (Ok (Some l)) ≡ join_all (get_or ids 0 0) (drop 1 (take m ids)) (lent ws₀ ns k₀)
   unfolding join_all
   all_joined h l e ns =
       let at-end : length (take m ids) ≡ i = omega (arith, h, G.within, length_first ids m long) in

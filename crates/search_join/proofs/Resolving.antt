@@ -1,6 +1,7 @@
 -- The loop over the sources. Its invariant: the sorts so far, and to resolve what is left from the lists now, is to resolve all of them from the lists
 -- at entry. Each law answers a place of the code: its premises are the invariant and what the callees ensure there. Assumes nothing.
 use mathlib.Core.Path.{◌≡◌, refl, sym, ◌∙◌, ap, subst}
+use mathlib.Core.Bool.{Bool, true, false}
 use mathlib.Core.List.{List, [], ◌∷◌, ◌++◌, append_assoc, append-nil}
 use Prim.Native.Nat.{ℕ, ◌+◌, ◌-◌, ◌<◌, ◌≤◌}
 use native.Mathlib.Omega.{arith}
@@ -23,9 +24,8 @@ use Rattle.inference.specs.Search.{resolve_in, resolve_all}
 use Rattle.inference.specs.Inner.Listed.{SortsOnly}
 use Rattle.inference.proofs.Invariant.{sorts_only_refl, sorts_only_trans}
 use Rattle.inference.proofs.MakingSorts.{MadeSorts, NoDefault, resolve_makes}
-use Rattle.search_state.specs.declared.Made.{Made}
-use Rattle.search_state.specs.declared.Made.TheVariants.{At as Is, Nothing as NoSort, Full as NoRoom}
-use Rattle.search_state.specs.declared.Extracted.TheVariants.{All, Nothing as Without, Full as NotAll}
+use Rattle.std.specs.Prelude.{Option, Some, None, Result, Ok, Err}
+use Rattle.resolved_sort.specs.declared.NoRoom.{NoRoom}
 use Rattle.search_state.specs.Inner.Memory.{source_at}
 use Rattle.search_state.specs.Inner.Leaves.{made_of, extracted_of}
 use Rattle.search_join.specs.Inner.Sources.{Sources}
@@ -115,19 +115,20 @@ module _ (ns bs ls : List ℕ) (s m : ℕ) (ws₀ ids₀ : List ℕ) (k₀ : Len
           ∙ (ap (λ q. before (take i ids) (resolve_in Nothing B q W and-then rest)) e
           ∙ (ap (λ ps. before (take i ids) (resolve_all Nothing B ps W)) (sym (run_one_left (source_at ls) s m i h)) ∙ G.same))
 
-      module _ (vs : List ℕ) (r : Made) (er : made_of vs ns r ≡ resolve_in Nothing (binds_of bs k.variables) p W) where
-        by : (x : Made) → r ≡ x → before (take i ids) (made_of vs ns x and-then rest) ≡ all_of B ls s m W₀
-        by x z = ap (λ y. before (take i ids) (made_of vs ns y and-then rest)) (sym z) ∙ (ap (λ O. before (take i ids) (O and-then rest)) er ∙ first)
+      module _ (vs : List ℕ) (l : Lengths) (r : Result (Option SortId) NoRoom)
+          (er : made_of vs ns l r ≡ resolve_in Nothing (binds_of bs k.variables) p W) where
+        by : (x : Result (Option SortId) NoRoom) → r ≡ x → before (take i ids) (made_of vs ns l x and-then rest) ≡ all_of B ls s m W₀
+        by x z = ap (λ y. before (take i ids) (made_of vs ns l y and-then rest)) (sym z) ∙ (ap (λ O. before (take i ids) (O and-then rest)) er ∙ first)
 
-        pub stops : (l : Lengths) → r ≡ NoSort l → extracted_of vs ns ids 0 m (Without l) ≡ all_of B ls s m W₀
-        stops l z = by (NoSort l) z
+        pub stops : r ≡ Ok None → extracted_of vs ns ids 0 m l (Ok false) ≡ all_of B ls s m W₀
+        stops z = by (Ok None) z
 
-        pub ends : (l : Lengths) → r ≡ NoRoom l → extracted_of vs ns ids 0 m (NotAll l) ≡ all_of B ls s m W₀
-        ends l z = by (NoRoom l) z
+        pub ends : (x : NoRoom) → r ≡ Err x → extracted_of vs ns ids 0 m l (Err x) ≡ all_of B ls s m W₀
+        ends x z = by (Err x) z
 
-        pub next : (c : SortId) (l : Lengths) → r ≡ Is c l → (xs : List ℕ) → xs ≡ set ids i c.0 → Going ns bs ls s m ws₀ ids₀ k₀ vs xs l (i + 1)
+        pub next : (c : SortId) → r ≡ Ok (Some c) → (xs : List ℕ) → xs ≡ set ids i c.0 → Going ns bs ls s m ws₀ ids₀ k₀ vs xs l (i + 1)
         unfolding MadeSorts
-        next c l z xs ex =
+        next c z xs ex =
             record {
               entered = G.entered;
               within = omega (arith, h);
@@ -136,19 +137,33 @@ module _ (ns bs ls : List ℕ) (s m : ℕ) (ws₀ ids₀ : List ℕ) (k₀ : Len
               same =
                   ap (λ ys. before ys (all_of B ls (s + (i + 1)) (m - (i + 1)) (lent vs ns l))) (ap (take (i + 1)) ex ∙
                   one_more ids i c.0 (omega (arith, G.many, G.entered.room, h)))
-                  ∙ (before_one (take i ids) c.0 (all_of B ls (s + (i + 1)) (m - (i + 1)) (lent vs ns l)) ∙ by (Is c l) z);
+                  ∙ (before_one (take i ids) c.0 (all_of B ls (s + (i + 1)) (m - (i + 1)) (lent vs ns l)) ∙ by (Ok (Some c)) z);
             }
           where
             made_sorts : MadeSorts (SortWith (AlwaysStandsFor W (binds_of bs k.variables) Nothing p)) (NoDefault Nothing) W (made c.0 (lent vs ns l))
             made_sorts =
-                subst (MadeSorts (SortWith (AlwaysStandsFor W (binds_of bs k.variables) Nothing p)) (NoDefault Nothing) W) (sym er ∙ ap (made_of vs ns) z)
+                subst (MadeSorts (SortWith (AlwaysStandsFor W (binds_of bs k.variables) Nothing p)) (NoDefault Nothing) W) (sym er ∙ ap (made_of vs ns l) z)
                 (resolve_makes W ready.nodes (binds_of bs k.variables) ready.binds Nothing tt p source_ready.1)
 
   -- no source is left
-  pub all_made : m ≤ i → extracted_of ws ns ids 0 m (All k) ≡ all_of B ls s m W₀
+  pub all_made : m ≤ i → extracted_of ws ns ids 0 m k (Ok true) ≡ all_of B ls s m W₀
   unfolding resolve_all rows_from
   all_made h =
       let at-end : m ≡ i = omega (arith, h, G.within) in
       let none_left : 0 ≡ m - i = omega (arith, h) in
       ap (λ (n : ℕ). made (take n ids) W) at-end
       ∙ (ap (λ xs. made xs W) (sym (append-nil (take i ids))) ∙ (ap (λ (n : ℕ). before (take i ids) (all_of B ls (s + i) n W)) none_left ∙ G.same))
+
+-- of nodes, bindings and lists that are those at entry
+pub as_entered : (ns ns' bs bs' ls ls' : List ℕ) → ns' ≡ ns → bs' ≡ bs → ls' ≡ ls → (s m : ℕ) (ws : List ℕ) (k : Lengths)
+    (vs ids : List ℕ) (l : Lengths) (r : Result Bool NoRoom)
+    → extracted_of vs ns' ids 0 m l r ≡ all_of (binds_of bs' k.variables) ls' s m (lent ws ns' k)
+    → extracted_of vs ns ids 0 m l r ≡ all_of (binds_of bs k.variables) ls s m (lent ws ns k)
+as_entered ns ns' bs bs' ls ls' p q o s m ws k vs ids l r x =
+    subst (λ (ys : List ℕ). extracted_of vs ys ids 0 m l r ≡ all_of (binds_of bs k.variables) ls s m (lent ws ys k)) p
+    (subst (λ (ys : List ℕ). extracted_of vs ns' ids 0 m l r ≡ all_of (binds_of ys k.variables) ls s m (lent ws ns' k)) q
+    (subst (λ (ys : List ℕ). extracted_of vs ns' ids 0 m l r ≡ all_of (binds_of bs' k.variables) ys s m (lent ws ns' k)) o x))
+
+pub going_as : (ns ns' bs bs' ls ls' : List ℕ) → ns' ≡ ns → bs' ≡ bs → ls' ≡ ls → (s m : ℕ) (ws₀ ids₀ : List ℕ) (k₀ : Lengths) (ws ids : List ℕ)
+    (k : Lengths) (i : ℕ) → Going ns bs ls s m ws₀ ids₀ k₀ ws ids k i → Going ns' bs' ls' s m ws₀ ids₀ k₀ ws ids k i
+going_as ns ns' bs bs' ls ls' p q o s m ws₀ ids₀ k₀ ws ids k i G = rw (p, q, o) G

@@ -18,124 +18,111 @@ ghost use Rattle.inference.specs.Search.{resolve_in, join_in, resolve_all, join_
 ghost use Rattle.inference.specs.Search.{agreed as agreedOn, join_of};
 ghost use Rattle.search_state.specs.Inner.Memory.{source_at, measure_at, scratch_used};
 ghost use Rattle.search_state.specs.Inner.Leaves.{made_of, extracted_of, AgreesOn};
-ghost use Rattle.search_state.specs.Inner.Searching.{Agreeing};
-ghost use Rattle.search_join.specs.Inner.Sources.{made_from, Sources, Resolved};
+ghost use Rattle.search_state.specs.Inner.Solving.{Agreeing, KeepsRest, OnlySorts, lent_of};
+ghost use Rattle.search_join.specs.Inner.Sources.{made_from, counted, Sources, Resolved};
 ghost use Rattle.unification.specs.Inner.Making.{lent};
 
 use infer_nodes::{counts_of, with_counts};
 use inference::MAX_SOURCES;
 use problem_words::source_at;
-use resolved_sort::{Counts, Joined, Run, SortId, Widening};
+use resolved_sort::{Counts, Joined, NoRoom, Run, SortId, Widening};
 use resolver::resolve;
-use search_state::{Branch, Extracted, MEASURE_AT, Made};
+use search_state::{Branch, MEASURE_AT, Search};
 use sort_bounds::lent::join;
 use sort_order::lent::{is_materializable, widening_distance};
 use unification::{InferSortId, Lengths};
 use words::{put, word};
 
-// An answer of resolve or join with the lengths then. Where room ends, nothing is counted in.
-fn made_from(lengths: Lengths, joined: Joined) -> Made
-    ensures { result ≡ made_from lengths joined }
+// An answer of resolve or join, whose counts are the lengths from now on. Where room ends, nothing is counted in.
+fn made_from(search: &mut Search<'_>, joined: Joined) -> Result<Option<SortId>, NoRoom>
+    ensures { (result ≡ made_from joined)
+        × (search.new.lengths ≡ counted search.old.lengths joined)
+        × (search.new.sorts.now ≡ search.old.sorts.now)
+        × OnlySorts search.old search.new }
 {
     match joined {
-        Joined::At(sort, counts) => Made::At(sort, with_counts(lengths, counts)),
-        Joined::Nothing(counts) => Made::Nothing(with_counts(lengths, counts)),
-        Joined::Full => Made::Full(lengths),
+        Joined::At(sort, counts) => {
+            search.lengths = with_counts(search.lengths, counts);
+            Ok(Some(sort))
+        }
+        Joined::Nothing(counts) => {
+            search.lengths = with_counts(search.lengths, counts);
+            Ok(None)
+        }
+        Joined::Full => Err(NoRoom),
     }
 }
 
 // The sort of a place.
-fn sort_of(
-    sorts: &mut [u16],
-    nodes: &[u16],
-    binds: &[u16],
-    lengths: Lengths,
-    id: InferSortId,
-) -> Made
-    requires { Ready sorts.old nodes.now binds.now lengths × Placed lengths id.0 }
-    ensures { made_of sorts.new nodes.now result
-        ≡ resolve_in None (binds_of binds.now lengths.variables) id.0
-        (lent sorts.old nodes.now lengths) }
+fn sort_of(search: &mut Search<'_>, id: InferSortId) -> Result<Option<SortId>, NoRoom>
+    requires { Ready search.old.sorts.now search.old.nodes.now search.old.binds.now search.old.lengths
+        × Placed search.old.lengths id.0 }
+    ensures { (made_of search.new.sorts.now search.old.nodes.now search.new.lengths result
+        ≡ resolve_in None (binds_of search.old.binds.now search.old.lengths.variables) id.0
+        (lent_of search.old))
+        × OnlySorts search.old search.new }
 {
-    made_from(lengths, resolve(sorts, nodes, binds, lengths, id))
+    let lengths = search.lengths;
+    let nodes = &mut *search.nodes;
+    let binds = &mut *search.binds;
+    let resolved = resolve(search.sorts, nodes, binds, lengths, id);
+    made_from(search, resolved)
 }
 
 // The join of two sorts. It does not look at nodes, whatever they are.
-fn join_of(sorts: &mut [u16], lengths: Lengths, lhs: SortId, rhs: SortId) -> Made
-    requires { Asked sorts.old lengths.sorts lengths.entries lhs.0 rhs.0 }
-    ensures { (ns : List ℕ)
-        → made_of sorts.new ns result ≡ join_in lhs.0 rhs.0 (lent sorts.old ns lengths) }
+fn join_of(search: &mut Search<'_>, lhs: SortId, rhs: SortId) -> Result<Option<SortId>, NoRoom>
+    requires { Asked search.old.sorts.now search.old.lengths.sorts search.old.lengths.entries lhs.0
+        rhs.0 }
+    ensures { ((ns : List ℕ)
+        → made_of search.new.sorts.now ns search.new.lengths result
+        ≡ join_in lhs.0 rhs.0 (lent search.old.sorts.now ns search.old.lengths))
+        × OnlySorts search.old search.new
+        × (length search.new.sorts.now ≡ length search.old.sorts.now) }
 {
-    made_from(lengths, join(sorts, counts_of(lengths), lhs, rhs))
+    let counts = counts_of(search.lengths);
+    let joined = join(search.sorts, counts, lhs, rhs);
+    made_from(search, joined)
 }
 
-// The sorts of the sources, up to the first that has none.
-fn resolve_sources(
-    sorts: &mut [u16],
-    nodes: &[u16],
-    binds: &[u16],
-    lists: &[u16],
-    ids: &mut [u16],
-    lengths: Lengths,
-    sources: Run,
-) -> Extracted
-    requires { Sources sorts.old nodes.now binds.now lists.now ids.old lengths sources }
-    ensures { extracted_of sorts.new nodes.now ids.new 0 sources.count result
-        ≡ resolve_all None (binds_of binds.now lengths.variables)
-        (rows_from (source_at lists.now) sources.start sources.count)
-        (lent sorts.old nodes.now lengths) }
+// The sorts of the sources, up to the first that has none. Answers whether all have one.
+fn resolve_sources(search: &mut Search<'_>, ids: &mut [u16], sources: Run) -> Result<bool, NoRoom>
+    requires { Sources search.old.sorts.now search.old.nodes.now search.old.binds.now search.old.lists.now
+        ids.old search.old.lengths sources }
+    ensures { (extracted_of search.new.sorts.now search.old.nodes.now ids.new 0 sources.count
+        search.new.lengths result
+        ≡ resolve_all None (binds_of search.old.binds.now search.old.lengths.variables)
+        (rows_from (source_at search.old.lists.now) sources.start sources.count)
+        (lent_of search.old))
+        × OnlySorts search.old search.new }
 {
-    let start = sources.start;
-    let count = sources.count;
-    let mut here = lengths;
-    let mut i: u16 = 0;
-    while i < count {
-        let next = source_at(lists, start + i);
-        match sort_of(sorts, nodes, binds, here, next) {
-            Made::At(sort, then) => {
-                put(ids, i as usize, sort.0);
-                here = then;
-            }
-            Made::Nothing(then) => {
-                return Extracted::Nothing(then);
-            }
-            Made::Full(then) => {
-                return Extracted::Full(then);
-            }
-        }
-        i += 1;
+    for i in 0..sources.count {
+        let source = source_at(search.lists, sources.start + i);
+        let Some(sort) = sort_of(search, source)? else {
+            return Ok(false);
+        };
+        put(ids, i as usize, sort.0);
     }
-    Extracted::All(here)
+    Ok(true)
 }
 
 // The join of all sorts, from left to right.
 // Two sorts may have no join (unequal element sorts, say): then widening one source after another decides.
-fn join_all(sorts: &mut [u16], lengths: Lengths, ids: &[u16], count: u16) -> Made
-    requires { Resolved sorts.old lengths ids.now count × (0 < count) }
-    ensures { (ns : List ℕ)
-        → made_of sorts.new ns result
+fn join_all(search: &mut Search<'_>, ids: &[u16], count: u16) -> Result<Option<SortId>, NoRoom>
+    requires { Resolved search.old.sorts.now search.old.lengths ids.now count × (0 < count) }
+    ensures { ((ns : List ℕ)
+        → made_of search.new.sorts.now ns search.new.lengths result
         ≡ join_all (get_or ids.now 0 0) (drop 1 (take count ids.now))
-        (lent sorts.old ns lengths) }
+        (lent search.old.sorts.now ns search.old.lengths))
+        × OnlySorts search.old search.new }
 {
     let mut lub = SortId(word(ids, 0));
-    let mut here = lengths;
-    let mut i: u16 = 1;
-    while i < count {
-        match join_of(sorts, here, lub, SortId(word(ids, i as usize))) {
-            Made::At(sort, then) => {
-                lub = sort;
-                here = then;
-            }
-            Made::Nothing(then) => {
-                return Made::Nothing(then);
-            }
-            Made::Full(then) => {
-                return Made::Full(then);
-            }
-        }
-        i += 1;
+    for i in 1..count {
+        let Some(joined) = join_of(search, lub, SortId(word(ids, i as usize)))? else {
+            return Ok(None);
+        };
+        lub = joined;
     }
-    Made::At(lub, here)
+    Ok(Some(lub))
 }
 
 // Whether each of the sorts is equal to or materializable into their join.
@@ -148,12 +135,10 @@ fn all_materializable(sorts: &[u16], lengths: Lengths, ids: &[u16], count: u16, 
         → result ≡ all_into (lent sorts.now ns lengths) lub.0 (take count ids.now) }
 {
     let counts = counts_of(lengths);
-    let mut i: u16 = 0;
-    while i < count {
+    for i in 0..count {
         if !is_materializable(sorts, counts, SortId(word(ids, i as usize)), lub) {
             return false;
         }
-        i += 1;
     }
     true
 }
@@ -194,69 +179,58 @@ fn put_heads(
 {
     let counts = counts_of(lengths);
     let from = MEASURE_AT + (measure as usize);
-    let mut i: u16 = 0;
-    while i < count {
+    for i in 0..count {
         let head = head_distance(sorts, counts, SortId(word(ids, i as usize)), lub);
         put(scratch, from + (i as usize), head);
-        i += 1;
     }
 }
 
 // The sort on which sorts agree, with the components that it costs.
 fn agreement(
-    sorts: &mut [u16],
-    scratch: &mut [u16],
-    lengths: Lengths,
+    search: &mut Search<'_>,
     ids: &[u16],
     count: u16,
     at: Branch,
-) -> Made
-    requires { Resolved sorts.old lengths ids.now count
-        × (scratch_used ≤ length scratch.old)
+) -> Result<Option<SortId>, NoRoom>
+    requires { Resolved search.old.sorts.now search.old.lengths ids.now count
+        × (scratch_used ≤ length search.old.scratch.now)
         × (at.measure + count ≤ max_components) }
-    ensures { (ns : List ℕ)
-        → AgreesOn ns scratch.old at count
-        (agreedOn (take count ids.now) (lent sorts.old ns lengths))
-        sorts.new scratch.new result }
+    ensures { ((ns : List ℕ)
+        → AgreesOn ns search.old.scratch.now at count
+        (agreedOn (take count ids.now) (lent search.old.sorts.now ns search.old.lengths))
+        search.new.sorts.now search.new.scratch.now search.new.lengths result)
+        × KeepsRest search.old search.new
+        × (search.new.nodes.now ≡ search.old.nodes.now) }
 {
     if count == 0 {
-        return Made::Nothing(lengths);
+        return Ok(None);
     }
-    match join_all(sorts, lengths, ids, count) {
-        Made::At(lub, here) => {
-            if !all_materializable(sorts, here, ids, count, lub) {
-                return Made::Nothing(here);
-            }
-            put_heads(sorts, scratch, here, ids, count, lub, at.measure);
-            Made::At(lub, here)
-        }
-        Made::Nothing(here) => Made::Nothing(here),
-        Made::Full(here) => Made::Full(here),
+    let Some(lub) = join_all(search, ids, count)? else {
+        return Ok(None);
+    };
+    let lengths = search.lengths;
+    let sorts = &mut *search.sorts;
+    if !all_materializable(sorts, lengths, ids, count, lub) {
+        return Ok(None);
     }
+    put_heads(sorts, search.scratch, lengths, ids, count, lub, at.measure);
+    Ok(Some(lub))
 }
 
 // The sort on which the sources of a Join agree. Their head distances are written after the measure, as components.
-pub fn agreed(
-    sorts: &mut [u16],
-    nodes: &[u16],
-    binds: &[u16],
-    scratch: &mut [u16],
-    lists: &[u16],
-    lengths: Lengths,
-    at: Branch,
-    sources: Run,
-) -> Made
-    requires { Agreeing sorts.old nodes.now binds.now scratch.old lists.now lengths at sources }
-    ensures { AgreesOn nodes.now scratch.old at sources.count
-        (join_of (binds_of binds.now lengths.variables)
-        (rows_from (source_at lists.now) sources.start sources.count)
-        (lent sorts.old nodes.now lengths))
-        sorts.new scratch.new result }
+pub fn agreed(search: &mut Search<'_>, at: Branch, sources: Run) -> Result<Option<SortId>, NoRoom>
+    requires { Agreeing search.old at sources }
+    ensures { AgreesOn search.old.nodes.now search.old.scratch.now at sources.count
+        (join_of (binds_of search.old.binds.now search.old.lengths.variables)
+        (rows_from (source_at search.old.lists.now) sources.start sources.count)
+        (lent_of search.old))
+        search.new.sorts.now search.new.scratch.now search.new.lengths result
+        × KeepsRest search.old search.new
+        × (search.new.nodes.now ≡ search.old.nodes.now) }
 {
     let mut ids = [0u16; MAX_SOURCES];
-    match resolve_sources(sorts, nodes, binds, lists, &mut ids, lengths, sources) {
-        Extracted::All(here) => agreement(sorts, scratch, here, &ids, sources.count, at),
-        Extracted::Nothing(here) => Made::Nothing(here),
-        Extracted::Full(here) => Made::Full(here),
+    if !resolve_sources(search, &mut ids, sources)? {
+        return Ok(None);
     }
+    agreement(search, &ids, sources.count, at)
 }

@@ -24,17 +24,19 @@ use Rattle.search_state.specs.declared.Sizes.{Sizes}
 use Rattle.search_state.specs.declared.State.{State}
 use Rattle.search_state.specs.declared.Branch.{Branch}
 use Rattle.search_state.specs.declared.Answer.{Answer}
-use Rattle.search_state.specs.declared.Answer.TheVariants.{Found, Full}
-use Rattle.search_state.specs.declared.Extracted.{Extracted}
-use Rattle.search_state.specs.declared.Extracted.TheVariants.{All, Nothing as Without, Full as NotAll}
-use Rattle.search_state.specs.declared.Ordering.{Ordering}
-use Rattle.search_state.specs.declared.Ordering.TheVariants.{Less, Equal, Greater}
+use Rattle.search_state.specs.declared.Answer.TheVariants.{Found, Full as Ended}
+use Rattle.unification.specs.declared.Full.{Full}
+use Rattle.std.specs.Prelude.{Result, Ok, Err}
+use Rattle.resolved_sort.specs.declared.NoRoom.{NoRoom}
+use Rattle.std.specs.declared.cmp.Ordering.{Ordering}
+use Rattle.std.specs.declared.cmp.Ordering.TheVariants.{Less, Equal, Greater}
 use Rattle.search_state.specs.Inner.Memory.{expr_at, problem_in, chosen_exprs, best_sorts_at, measure_at, best_measure_at}
 use Rattle.search_state.specs.Inner.Memory.{choices_at, best_choices_at, scratch_used, choices_of, path_of, candidate_of}
 use Rattle.search_state.specs.Inner.Memory.{best_of, world_of}
 use Rattle.words.specs.Words.{part}
 use Rattle.search_state.specs.Inner.Leaves.{extracted_of, Extracts, ranking_of}
-use Rattle.search_state.specs.Inner.Searching.{AtLeaf, SamePath, Comes}
+use Rattle.search_state.specs.Inner.Solving.{answer_of}
+use Rattle.search_state.specs.Inner.Searching.{AtLeaf, SamePath, Done, Comes}
 use Rattle.search_state.proofs.Parts.{changed_wider, same_path_refl, same_path_trans, sorts_change_no_path}
 use Rattle.search_leaf.specs.Inner.Leaf.{ranked_by, Readable, sorts_from, kept_as_best, Keepable}
 use Rattle.search_leaf.proofs.Copies.{kept_measure, kept_choices, kept_sorts, kept_path}
@@ -55,6 +57,11 @@ module _ (ws ns bs sc ls : List ℕ) (z : Sizes) (k : State) (e : Branch) (p : A
 
   abbrev world : World (Unit {0})
   world = world_of ls z ws ns sc k
+
+  -- the same answer, with the nodes and bindings that were left as they were
+  pub as_left : (O : Out (Unit {0})) (ws' ns' bs' : List ℕ) → ns' ≡ ns → bs' ≡ bs → (sc' : List ℕ) (a b : Answer)
+      → b ≡ a → Done ls z ws ns bs sc k e O ws' ns bs sc' a → Done ls z ws ns bs sc k e O ws' ns' bs' sc' b
+  as_left O ws' ns' bs' p q sc' a b r d = rw (p, q, r) d
 
   checked : CheckedLent W
   checked = p.ready.nodes
@@ -79,9 +86,10 @@ module _ (ws ns bs sc ls : List ℕ) (z : Sizes) (k : State) (e : Branch) (p : A
   abbrev replaced : Out (Unit {0})
   replaced = replace (Unit {0}) nothing_met (problem_in ls z) here world
 
-  module _ (ws' sc' : List ℕ) (r : Extracted) (q : Extracts ns sc best_sorts_at z.exprs (sorts_from bs ls z.default 0 z.exprs W) ws' sc' r) where
-    abbrev Making : Extracted → Type 0
-    Making x = MadeSorts Sorts ⊥ W (extracted_of ws' ns sc' best_sorts_at z.exprs x)
+  module _ (ws' sc' : List ℕ) (k' : Lengths) (r : Result Bool NoRoom)
+      (q : Extracts ns sc best_sorts_at z.exprs (sorts_from bs ls z.default 0 z.exprs W) ws' sc' k' r) where
+    abbrev Making : Result Bool NoRoom → Type 0
+    Making x = MadeSorts Sorts ⊥ W (extracted_of ws' ns sc' best_sorts_at z.exprs k' x)
 
     makes : Making r
     makes =
@@ -94,8 +102,8 @@ module _ (ws ns bs sc ls : List ℕ) (z : Sizes) (k : State) (e : Branch) (p : A
         found (keeping (Unit {0}) nothing_met (problem_in ls z) v here
         (record { measure = here.measure; sorts = ss; choices = here.choices; duplicate = false }))
 
-    abbrev Says : Extracted → Type 0
-    Says x = on_made (extracted_of ws' ns sc' best_sorts_at z.exprs x) next_incumbent missed world ≡ replaced
+    abbrev Says : Result Bool NoRoom → Type 0
+    Says x = on_made (extracted_of ws' ns sc' best_sorts_at z.exprs k' x) next_incumbent missed world ≡ replaced
 
     says : Says r
     unfolding problem_in
@@ -109,13 +117,13 @@ module _ (ws ns bs sc ls : List ℕ) (z : Sizes) (k : State) (e : Branch) (p : A
     pub keepable : Keepable z sc'
     keepable = record { components = p.sized.few_components; disjunctions = p.sized.few_disjunctions; long = omega (arith, p.long, q.changed.long) }
 
-    pub never_without : (k' : Lengths) → r ≡ Without k' → {A : Type 0} → A
+    pub never_without : r ≡ Ok false → {A : Type 0} → A
     unfolding MadeSorts
-    never_without k' f = absurd (subst Making f makes).1
+    never_without f = absurd (subst Making f makes).1
 
-    pub room_ends : (k' : Lengths) → r ≡ NotAll k' → Comes ls z ws ns bs sc k e (replace (Unit {0}) nothing_met (problem_in ls z)) ws' ns bs sc' (Full 15 k')
+    pub room_ends : (x : NoRoom) → r ≡ Err x → Comes ls z ws ns bs sc k e (replace (Unit {0}) nothing_met (problem_in ls z)) ws' ns bs sc' (Ended 15 k')
     unfolding MadeSorts
-    room_ends k' f =
+    room_ends x f =
         record {
           says = subst Says f says;
           grown = (subst Making f makes).0.grows;
@@ -123,10 +131,10 @@ module _ (ws ns bs sc ls : List ℕ) (z : Sizes) (k : State) (e : Branch) (p : A
           path = path;
         }
 
-    pub replaces : (k' : Lengths) → r ≡ All k' → (sc'' : List ℕ) → sc'' ≡ kept_as_best z sc'
+    pub replaces : r ≡ Ok true → (sc'' : List ℕ) → sc'' ≡ kept_as_best z sc'
         → Comes ls z ws ns bs sc k e (replace (Unit {0}) nothing_met (problem_in ls z)) ws' ns bs sc'' (Found (incumbent k' false))
     unfolding MadeSorts best_of candidate_of
-    replaces k' f sc'' es =
+    replaces f sc'' es =
         record {
           says = (λ i. next (measure i) (sorts i) (choices i)) ∙ subst Says f says;
           grown = (subst Making f makes).0;
@@ -186,13 +194,17 @@ module _ (ws ns bs sc ls : List ℕ) (z : Sizes) (k : State) (e : Branch) (p : A
     leaf_is : (o : Ordering) → r ≡ o → ranks_as (ranking_of o) ≡ leaf (Unit {0}) nothing_met (problem_in ls z) here world
     leaf_is o f = subst (λ (x : Ordering). ranks_as (ranking_of x) ≡ leaf (Unit {0}) nothing_met (problem_in ls z) here world) f (leaf_ranks r q)
 
-    pub less_replaces : r ≡ Less → (ws' sc' : List ℕ) (a : Answer)
-        → Comes ls z ws ns bs sc k e (replace (Unit {0}) nothing_met (problem_in ls z)) ws' ns bs sc' a
-        → ComesTo ws' sc' a
-    less_replaces f ws' sc' a d = record { says = d.says ∙ leaf_is Less f; grown = d.grown; binds = d.binds; path = d.path }
+    pub less_replaces : r ≡ Less → (ws' ns' bs' sc' : List ℕ) (a : Answer)
+        → Comes ls z ws ns bs sc k e (replace (Unit {0}) nothing_met (problem_in ls z)) ws' ns' bs' sc' a
+        → Comes ls z ws ns bs sc k e (leaf (Unit {0}) nothing_met (problem_in ls z)) ws' ns' bs' sc' a
+    less_replaces f ws' ns' bs' sc' a d = record { says = d.says ∙ leaf_is Less f; grown = d.grown; binds = d.binds; path = d.path }
 
     pub equal_marks : r ≡ Equal → ComesTo ws sc (Found (incumbent k.lengths true))
     equal_marks f = record { says = leaf_is Equal f; grown = sorts_only_refl W checked; binds = refl; path = same_path_refl e sc }
 
     pub greater_stays : r ≡ Greater → ComesTo ws sc (Found k)
     greater_stays f = record { says = leaf_is Greater f; grown = sorts_only_refl W checked; binds = refl; path = same_path_refl e sc }
+
+-- an answer with a state
+abbrev pub told : State → Result Bool Full → Answer
+told = answer_of

@@ -1,78 +1,61 @@
 -- Components against the incumbent's, as the code meets them. What is left to compare ranks as the whole does, since what was passed is equal; so a
 -- dominated prefix is one that ranks greater than as many components of the incumbent. Assumes nothing.
-use mathlib.Core.Path.{◌≡◌, sym, ap, ap₂, ◌∙◌}
+use mathlib.Core.Path.{◌≡◌, refl, sym, ap, ap₂, ◌∙◌}
 use mathlib.Core.Bool.{Bool, true, false}
-use mathlib.Core.List.{List, ◌∷◌}
-use Prim.Native.Nat.{ℕ, suc, ◌+◌, ◌-◌, ◌<◌, ◌≤◌}
-use native.Mathlib.Numerals.{unary_clauses}
+use mathlib.Core.List.{List, [], ◌∷◌}
+use Prim.Native.Nat.{ℕ, ◌+◌, ◌-◌, ◌<◌}
 use native.Mathlib.Omega.{arith}
-use lib.ListN.{length, get_or, take}
-use Rattle.inference.specs.Constraints.{max_components}
-use Rattle.inference.specs.Measure.{Components, Ranking, compare, is_greater, worse}
+use lib.ListN.{length, take, drop}
+use Rattle.inference.specs.Measure.{Components, compare, is_greater, worse}
 use Rattle.inference.specs.Search.{dominated_by}
 use Rattle.inference.specs.SolveEntry.{nothing_met}
 use Rattle.inference.proofs.Measures.{compare_below, compare_above, compare_level}
 use Rattle.search_state.specs.declared.Sizes.{Sizes}
 use Rattle.search_state.specs.declared.State.{State}
 use Rattle.search_state.specs.declared.Branch.{Branch}
-use Rattle.search_state.specs.declared.Ordering.{Ordering}
-use Rattle.search_state.specs.declared.Ordering.TheVariants.{Less, Equal, Greater}
-use Rattle.search_state.specs.Inner.Memory.{problem_in, measure_at, best_measure_at, scratch_used, candidate_of, best_of}
+use Rattle.std.specs.Prelude.{Option, Some, None}
+use Rattle.search_state.specs.declared.Incumbent.{Incumbent}
+use Rattle.search_state.specs.Inner.Solving.{has_best}
+use Rattle.std.specs.declared.cmp.Ordering.{Ordering}
+use Rattle.std.specs.declared.cmp.Ordering.TheVariants.{Less, Equal, Greater}
+use Rattle.search_state.specs.Inner.Memory.{problem_in, measure_at, best_measure_at, candidate_of, best_of}
+use Rattle.std.specs.Ordering.{MatchOrdering, nat_cmp, ordering_then, is_gt}
+use Rattle.std.specs.Cmp.Lexicographic.{slice_cmp}
+use Rattle.std.proofs.lemmas.Cmp.{ranked as by_numbers}
 use Rattle.words.specs.Words.{part}
 use Rattle.search_state.specs.Inner.Leaves.{ranking_of}
 use Rattle.search_state.specs.Inner.Searching.{Comparable}
-use Rattle.words.proofs.Parts.{length_part, take_part, part_first}
+use Rattle.words.proofs.Parts.{length_part, take_part}
 use Rattle.search_leaf.specs.Inner.Leaf.{ranked, ranked_by, IsDominated}
 
--- the components from the i-th on
-abbrev ranked_from : List ℕ → ℕ → ℕ → Ranking
-ranked_from sc i n = compare (part (measure_at + i) n sc) (part (best_measure_at + i) n sc)
+-- The order of lists of numbers is that of measures.
+by_first : (x y : ℕ) (xs ys : Components) (o p : Ordering) → o ≡ nat_cmp x y → MatchOrdering o (x < y) (x ≡ y) (y < x)
+    → ranking_of p ≡ compare xs ys → ranking_of (ordering_then o p) ≡ compare (x ∷ xs) (y ∷ ys)
+by_first x y xs ys Less p e l q = sym (compare_below x y xs ys l)
+by_first x y xs ys Equal p e l q = q ∙ sym (compare_level x y xs ys l)
+by_first x y xs ys Greater p e l q = sym (compare_above x y xs ys l)
 
--- before the i-th component
-pub record Comparing (sc : List ℕ) (n i : ℕ) : Type 0 where
-  pub few : n ≤ max_components
-  pub long : scratch_used ≤ length sc
-  pub within : i ≤ n
-  pub same : ranked_from sc i (n - i) ≡ ranked sc n
+pub as_measures : (xs ys : Components) → ranking_of (slice_cmp nat_cmp xs ys) ≡ compare xs ys
+unfolding compare
+as_measures [] [] = refl
+as_measures [] (y ∷ ys) = refl
+as_measures (x ∷ xs) [] = refl
+as_measures (x ∷ xs) (y ∷ ys) =
+    by_first x y xs ys (nat_cmp x y) (slice_cmp nat_cmp xs ys) refl (by_numbers x y (nat_cmp x y) refl) (as_measures xs ys)
 
-pub start : (sc : List ℕ) (n : ℕ) → (n ≤ max_components) × (scratch_used ≤ length sc) → Comparing sc n 0
-start sc n p = record { few = p.0; long = p.1; within = omega arith; same = simp unary_clauses }
-
-module _ (sc : List ℕ) (n i : ℕ) (G : Comparing sc n i) where
-  module _ (h : i < n) (x y : ℕ) (ex : x ≡ get_or sc (measure_at + i) 0) (ey : y ≡ get_or sc (best_measure_at + i) 0) where
-    -- what is left of both, after the first
-    abbrev xs : Components
-    xs = part (measure_at + (i + 1)) (n - (i + 1)) sc
-
-    abbrev ys : Components
-    ys = part (best_measure_at + (i + 1)) (n - (i + 1)) sc
-
-    from : (a : ℕ) → a + i < length sc → part (a + i) (n - i) sc ≡ get_or sc (a + i) 0 ∷ part (a + (i + 1)) (n - (i + 1)) sc
-    from a l =
-        let e : n - i ≡ suc (n - (i + 1)) = omega (arith, h) in
-        let f : suc (a + i) ≡ a + (i + 1) = omega arith in
-        ap (λ (m : ℕ). part (a + i) m sc) e ∙ (part_first (a + i) (n - (i + 1)) sc l ∙ ap (λ (j : ℕ). get_or sc (a + i) 0 ∷ part j (n - (i + 1)) sc) f)
-
-    first : compare (x ∷ xs) (y ∷ ys) ≡ ranked sc n
-    first =
-        ap₂ compare (ap (λ (z : ℕ). z ∷ xs) ex ∙ sym (from measure_at (omega (arith, h, G.few, G.long))))
-        (ap (λ (z : ℕ). z ∷ ys) ey ∙ sym (from best_measure_at (omega (arith, h, G.few, G.long))))
-        ∙ G.same
-
-    pub less : x < y → ranking_of Less ≡ ranked sc n
-    less l = sym (compare_below x y xs ys l) ∙ first
-
-    pub more : y < x → ranking_of Greater ≡ ranked sc n
-    more l = sym (compare_above x y xs ys l) ∙ first
-
-    pub next : y ≤ x → x ≤ y → Comparing sc n (i + 1)
-    next l k = record { few = G.few; long = G.long; within = omega (arith, h); same = sym (compare_level x y xs ys (omega (arith, l, k))) ∙ first }
-
-  pub all_equal : n ≤ i → ranking_of Equal ≡ ranked sc n
-  unfolding compare
-  all_equal h = let e : n - i ≡ 0 = omega (arith, h) in ap (ranked_from sc i) (sym e) ∙ G.same
+-- the words from the measure on, as slices
+pub ranked_slices : (sc : List ℕ) (n : ℕ) (o : Ordering) → o ≡ slice_cmp nat_cmp (take (measure_at + n - measure_at) (drop measure_at sc))
+    (take (best_measure_at + n - best_measure_at) (drop best_measure_at sc)) → ranking_of o ≡ ranked sc n
+ranked_slices sc n o e =
+    ap ranking_of e ∙ (ap₂ (λ (a b : ℕ). ranking_of (slice_cmp nat_cmp (part measure_at a sc) (part best_measure_at b sc)))
+    (let q : measure_at + n - measure_at ≡ n = omega arith in q) (let q : best_measure_at + n - best_measure_at ≡ n = omega arith in q)
+    ∙ as_measures (part measure_at n sc) (part best_measure_at n sc))
 
 -- with an incumbent, and without
+pub no_best : (b : Option Incumbent) → ((i : Incumbent) → b ≡ Some i → ⊥) → has_best b ≡ false
+no_best None n = refl
+no_best (Some i) n = absurd (n i refl)
+
 pub rank_with : (best : Bool) (sc : List ℕ) (n : ℕ) (r : Ordering) → best ≡ true → ranking_of r ≡ ranked sc n → ranking_of r ≡ ranked_by best sc n
 unfolding ranked_by
 rank_with best sc n r e f = rw e f
@@ -84,10 +67,15 @@ rank_without best sc n e = rw e
 -- Dominated is greater than as many components of the incumbent.
 pub dominated_is_greater : (sc : List ℕ) (z : Sizes) (k : State) (e : Branch) → Comparable sc z e → (r : Ordering)
     → ranking_of r ≡ ranked_by k.best sc e.measure
-    → (o : Ordering) → r ≡ o → IsDominated sc z k e (is_greater (ranking_of o))
+    → (b : Bool) → b ≡ is_gt r → IsDominated sc z k e b
 unfolding IsDominated ranked_by best_of candidate_of worse
-dominated_is_greater sc z k e p r q o f ls = ap (λ (x : Ordering). is_greater (ranking_of x)) (sym f) ∙ go k.best q
+dominated_is_greater sc z k e p r q b h ls = h ∙ (told r ∙ go k.best q)
   where
+    told : (r : Ordering) → is_gt r ≡ is_greater (ranking_of r)
+    told Less = refl
+    told Equal = refl
+    told Greater = refl
+
     same : take (length (part measure_at e.measure sc)) (part best_measure_at z.components sc) ≡ part best_measure_at e.measure sc
     same =
         ap (λ (n : ℕ). take n (part best_measure_at z.components sc)) (length_part measure_at e.measure sc (omega (arith, p.few, p.fits, p.long)))

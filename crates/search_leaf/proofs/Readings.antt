@@ -1,6 +1,7 @@
 -- The sorts of the expressions, read out one after another. The loop's invariant: to read all from the lists at entry is to read those that are left from the
 -- lists now, after those that stand in the words already; and the lists have grown by sorts only. Assumes nothing.
 use mathlib.Core.Path.{◌≡◌, refl, sym, ap, subst, ◌∙◌}
+use mathlib.Core.Bool.{Bool, true, false}
 use mathlib.Core.List.{List, [], ◌∷◌, ◌++◌, append_assoc, append-nil}
 use Prim.Native.Nat.{ℕ, suc, ◌+◌, ◌-◌, ◌<◌, ◌≤◌}
 use native.Mathlib.Numerals.{add-one, unary_clauses}
@@ -30,7 +31,8 @@ use Rattle.inference.proofs.Members.{each_row_at}
 use Rattle.inference.specs.Inner.Listed.{SortsOnly}
 use Rattle.inference.proofs.Invariant.{sorts_only_refl, sorts_only_trans}
 use Rattle.inference.proofs.MakingSorts.{MadeSorts, resolve_makes}
-use Rattle.search_state.specs.declared.Extracted.TheVariants.{All, Nothing as Without, Full as NotAll}
+use Rattle.std.specs.Prelude.{Result, Ok, Err}
+use Rattle.resolved_sort.specs.declared.NoRoom.{NoRoom}
 use Rattle.search_state.specs.Inner.Memory.{expr_at, best_sorts_at}
 use Rattle.words.specs.Words.{part}
 use Rattle.search_state.specs.Inner.Leaves.{ChangedOnly, Extracts}
@@ -131,15 +133,15 @@ module _ (ns bs ls : List ℕ) (d : SortId) (n : ℕ) (ws₀ sc₀ : List ℕ) (
           subst (MadeSorts (SortWith (AlwaysStandsFor W B (Is d) p)) ⊥ W) (resolved_in ws ns bs k (Is d) p vs w ew)
           (resolve_makes W ready.nodes B ready.binds (Is d) default p placed)
 
-      pub stops : (K : Counts) → w ≡ NotThere K → (k' : Lengths) → k' ≡ with_counts k K → Extracts ns sc₀ best_sorts_at n whole vs sc (Without k')
+      pub stops : (K : Counts) → w ≡ NotThere K → (k' : Lengths) → k' ≡ with_counts k K → Extracts ns sc₀ best_sorts_at n whole vs sc k' (Ok false)
       stops K z k' ek =
           record {
             says = ap (λ (j : Lengths). no_list (lent vs ns j)) ek ∙ subst (λ (v : Joined). after_first (makes_sort W (stored_at vs v) v) ≡ whole) z on;
             changed = G.changed;
           }
 
-      pub ends : w ≡ Full → Extracts ns sc₀ best_sorts_at n whole vs sc (NotAll k)
-      ends z =
+      pub ends : w ≡ Full → (x : NoRoom) → Extracts ns sc₀ best_sorts_at n whole vs sc k (Err x)
+      ends z x =
           record {
             says = subst (λ (v : Joined). after_first (makes_sort W (stored_at vs v) v) ≡ whole) z on;
             changed = G.changed;
@@ -174,7 +176,7 @@ module _ (ns bs ls : List ℕ) (d : SortId) (n : ℕ) (ws₀ sc₀ : List ℕ) (
                     ∙ subst (λ (v : Joined). after_first (makes_sort W (stored_at vs v) v) ≡ whole) z on;
               }
 
-  pub all_read : n ≤ i → Extracts ns sc₀ best_sorts_at n whole ws sc (All k)
+  pub all_read : n ≤ i → Extracts ns sc₀ best_sorts_at n whole ws sc k (Ok true)
   unfolding resolve_all rows_from
   all_read h =
       let e : n - i ≡ 0 = omega (arith, h) in
@@ -186,3 +188,13 @@ module _ (ns bs ls : List ℕ) (d : SortId) (n : ℕ) (ws₀ sc₀ : List ℕ) (
             ∙ (ap (λ (m : ℕ). sorts_from bs ls d i m W and-then (λ ss W. made (part best_sorts_at i sc ++ ss) W)) (sym e) ∙ G.same));
         changed = G.changed;
       }
+
+-- of nodes, bindings and lists that are those at entry
+pub as_entered : (ns ns' bs bs' ls ls' : List ℕ) → ns' ≡ ns → bs' ≡ bs → ls' ≡ ls → (sc : List ℕ) (d : SortId) (n : ℕ)
+    (ws : List ℕ) (k : Lengths) (ws' sc' : List ℕ) (k' : Lengths) (r : Result Bool NoRoom)
+    → Extracts ns' sc best_sorts_at n (sorts_from bs' ls' d 0 n (lent ws ns' k)) ws' sc' k' r
+    → Extracts ns sc best_sorts_at n (sorts_from bs ls d 0 n (lent ws ns k)) ws' sc' k' r
+as_entered ns ns' bs bs' ls ls' p q o sc d n ws k ws' sc' k' r x =
+    subst (λ (ys : List ℕ). Extracts ys sc best_sorts_at n (sorts_from bs ls d 0 n (lent ws ys k)) ws' sc' k' r) p
+    (subst (λ (ys : List ℕ). Extracts ns' sc best_sorts_at n (sorts_from ys ls d 0 n (lent ws ns' k)) ws' sc' k' r) q
+    (subst (λ (ys : List ℕ). Extracts ns' sc best_sorts_at n (sorts_from bs' ys d 0 n (lent ws ns' k)) ws' sc' k' r) o x))

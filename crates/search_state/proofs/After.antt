@@ -1,7 +1,7 @@
 -- One branch after another. Lists that have grown suit the problem as before, so what was asked for on a branch holds after another one; and where a first
 -- part of the search is done, what comes after it is done from where it left off. By the growth of lists, and by the first answer. Assumes nothing.
 use mathlib.Core.Path.{◌≡◌, refl, sym, ap, ◌∙◌, subst}
-use mathlib.Core.Bool.{Bool}
+use mathlib.Core.Bool.{Bool, true, false, ◌||◌}
 use mathlib.Core.List.{List}
 use Prim.Native.Nat.{ℕ, ◌+◌, ◌≤◌}
 use native.Mathlib.Omega.{arith}
@@ -27,10 +27,8 @@ use Rattle.search_state.specs.declared.Answer.{Answer}
 use Rattle.search_state.specs.declared.Answer.TheVariants.{Found, Missed, Full}
 use Rattle.search_state.specs.declared.Next.{Next}
 use Rattle.search_state.specs.declared.Next.TheVariants.{Solve, Source}
-use Rattle.search_state.specs.declared.Went.{Went}
-use Rattle.search_state.specs.declared.Went.TheVariants.{On, Stop}
 use Rattle.search_state.specs.Inner.Memory.{problem_in, trail_words, chosen_exprs, choices_of, path_of, world_of, out_of}
-use Rattle.search_state.specs.Inner.Leaves.{after_of}
+use Rattle.search_state.specs.Inner.Leaves.{says_of}
 use Rattle.search_state.specs.Inner.Searching.{Suits, NextFine, Searching, SearchGrown, SamePath, Done, Comes}
 use Rattle.search_state.proofs.Parts.{same_path_refl, same_path_trans}
 
@@ -139,13 +137,12 @@ module _ (ls : List ℕ) (z : Sizes) (ws ns bs sc : List ℕ) (k : State) (e : B
     pub grown_missed : (k₁ : State) → r ≡ Missed k₁ → SortsOnly W (lent ws₁ ns₁ k₁.lengths)
     grown_missed k₁ q = subst (SearchGrown W ws₁ ns₁) q d.grown
 
-    pub grown_on : (b : Bool) (v : Went) → v ≡ after_of r b → (k₁ : State) (b₁ : Bool) → v ≡ On k₁ b₁ → SortsOnly W (lent ws₁ ns₁ k₁.lengths)
-    grown_on b v q k₁ b₁ x = go r d.grown (sym q ∙ x)
+    pub grown_on : (x : Bool) (k₁ : State) → r ≡ says_of x k₁ → SortsOnly W (lent ws₁ ns₁ k₁.lengths)
+    grown_on x k₁ q = go x (subst (SearchGrown W ws₁ ns₁) q d.grown)
       where
-        go : (r : Answer) → SearchGrown W ws₁ ns₁ r → after_of r b ≡ On k₁ b₁ → SortsOnly W (lent ws₁ ns₁ k₁.lengths)
-        go (Found s) h y = subst (λ (s : State). SortsOnly W (lent ws₁ ns₁ s.lengths)) (let z : s ≡ k₁ = cc in z) h
-        go (Missed s) h y = subst (λ (s : State). SortsOnly W (lent ws₁ ns₁ s.lengths)) (let z : s ≡ k₁ = cc in z) h
-        go (Full x l) h y = absurd (let z : ◌≡◌ {A = ℕ} 0 1 = cc in omega arith)
+        go : (x : Bool) → SearchGrown W ws₁ ns₁ (says_of x k₁) → SortsOnly W (lent ws₁ ns₁ k₁.lengths)
+        go true h = h
+        go false h = h
 
     -- "where nothing was found, what else"
     module _ (f : World (Unit {0}) → Out (Unit {0})) where
@@ -166,34 +163,31 @@ module _ (ls : List ℕ) (z : Sizes) (ws ns bs sc : List ℕ) (k : State) (e : B
         done_as (f path (world_of ls z ws₁ ns₁ sc₁ k₁)) (else_try O (f path)) ws₂ ns₂ bs₂ sc₂ r₂ (or_missed (f path) k₁ q)
         (comes_after ws₁ ns₁ bs₁ sc₁ k₁ (grown_missed k₁ q) d.binds d.path f ws₂ ns₂ bs₂ sc₂ r₂ x)
 
-    -- "whatever was found, what else"
-    module _ (b : Bool) (f : Bool → World (Unit {0}) → Out (Unit {0})) (v : Went) (q : v ≡ after_of r b) where
-      pub and_stops : (x : ℕ) (l : Lengths) → v ≡ Stop x l → Done ls z ws ns bs sc k e (and_also O b f) ws₁ ns₁ bs₁ sc₁ (Full x l)
-      and_stops x l y = go r refl d.grown (sym q ∙ y)
-        where
-          go : (s : Answer) → r ≡ s → SearchGrown W ws₁ ns₁ s → after_of s b ≡ Stop x l → Done ls z ws ns bs sc k e (and_also O b f) ws₁ ns₁ bs₁ sc₁ (Full x l)
-          go (Found s) e h y = absurd (let z : ◌≡◌ {A = ℕ} 0 1 = cc in omega arith)
-          go (Missed s) e h y = absurd (let z : ◌≡◌ {A = ℕ} 0 1 = cc in omega arith)
-          go (Full x' l') e h y =
-              let i : Full x' l' ≡ Full x l = cc in
-              record {
-                says = ap (λ o. and_also o b f) (sym (ap (out_of ls z ws₁ ns₁ sc₁) (e ∙ i)) ∙ d.says);
-                grown = subst (SearchGrown W ws₁ ns₁) i h;
-                binds = d.binds;
-                path = d.path;
-              }
+    -- "whatever was found, what else": b before, x now
+    module _ (b : Bool) (f : Bool → World (Unit {0}) → Out (Unit {0})) where
+      pub and_stops : (c : ℕ) (l : Lengths) → r ≡ Full c l → Done ls z ws ns bs sc k e (and_also O b f) ws₁ ns₁ bs₁ sc₁ r
+      and_stops c l q =
+          subst (Done ls z ws ns bs sc k e (and_also O b f) ws₁ ns₁ bs₁ sc₁) (sym q)
+          (record {
+            says = ap (λ o. and_also o b f) (sym (ap (out_of ls z ws₁ ns₁ sc₁) q) ∙ d.says);
+            grown = subst (SearchGrown W ws₁ ns₁) q d.grown;
+            binds = d.binds;
+            path = d.path;
+          })
 
-      pub and_goes_on : (k₁ : State) (b₁ : Bool) → v ≡ On k₁ b₁ → f b₁ (world_of ls z ws₁ ns₁ sc₁ k₁) ≡ and_also O b f
-      and_goes_on k₁ b₁ y = go r (sym q ∙ y) ∙ ap (λ o. and_also o b f) d.says
+      pub and_goes_on : (x : Bool) (k₁ : State) → r ≡ says_of x k₁ → f (b || x) (world_of ls z ws₁ ns₁ sc₁ k₁) ≡ and_also O b f
+      and_goes_on x k₁ q = go x b ∙ ap (λ o. and_also o b f) (sym (ap (out_of ls z ws₁ ns₁ sc₁) q) ∙ d.says)
         where
-          go : (r : Answer) → after_of r b ≡ On k₁ b₁ → f b₁ (world_of ls z ws₁ ns₁ sc₁ k₁) ≡ and_also (out_of ls z ws₁ ns₁ sc₁ r) b f
-          go (Found s) h = cc
-          go (Missed s) h = cc
-          go (Full x l) h = absurd (let z : ◌≡◌ {A = ℕ} 0 1 = cc in omega arith)
+          go : (x b : Bool) → f (b || x) (world_of ls z ws₁ ns₁ sc₁ k₁) ≡ and_also (out_of ls z ws₁ ns₁ sc₁ (says_of x k₁)) b f
+          go true true = refl
+          go true false = refl
+          go false true = refl
+          go false false = refl
 
-    pub and_comes : (b : Bool) (f : Bool → Going (Unit {0}) nothing_met (problem_in ls z)) (v : Went) → v ≡ after_of r b → (k₁ : State) (b₁ : Bool) → v ≡ On k₁ b₁
-        → (ws₂ ns₂ bs₂ sc₂ : List ℕ) (r₂ : Answer) → Comes ls z ws₁ ns₁ bs₁ sc₁ k₁ e (f b₁) ws₂ ns₂ bs₂ sc₂ r₂
+    pub and_comes : (b : Bool) (f : Bool → Going (Unit {0}) nothing_met (problem_in ls z)) (x : Bool) (k₁ : State) → r ≡ says_of x k₁
+        → (ws₂ ns₂ bs₂ sc₂ : List ℕ) (r₂ : Answer) → Comes ls z ws₁ ns₁ bs₁ sc₁ k₁ e (f (b || x)) ws₂ ns₂ bs₂ sc₂ r₂
         → Done ls z ws ns bs sc k e (and_also O b (λ b. f b path)) ws₂ ns₂ bs₂ sc₂ r₂
-    and_comes b f v q k₁ b₁ y ws₂ ns₂ bs₂ sc₂ r₂ x =
-        done_as (f b₁ path (world_of ls z ws₁ ns₁ sc₁ k₁)) (and_also O b (λ b. f b path)) ws₂ ns₂ bs₂ sc₂ r₂ (and_goes_on b (λ b. f b path) v q k₁ b₁ y)
-        (comes_after ws₁ ns₁ bs₁ sc₁ k₁ (grown_on b v q k₁ b₁ y) d.binds d.path (f b₁) ws₂ ns₂ bs₂ sc₂ r₂ x)
+    and_comes b f x k₁ q ws₂ ns₂ bs₂ sc₂ r₂ y =
+        done_as (f (b || x) path (world_of ls z ws₁ ns₁ sc₁ k₁)) (and_also O b (λ b. f b path)) ws₂ ns₂ bs₂ sc₂ r₂
+        (and_goes_on b (λ b. f b path) x k₁ q)
+        (comes_after ws₁ ns₁ bs₁ sc₁ k₁ (grown_on x k₁ q) d.binds d.path (f (b || x)) ws₂ ns₂ bs₂ sc₂ r₂ y)

@@ -2,3 +2,4 @@
 pub mod Parts
 pub mod After
 pub mod Ways
+pub mod Solving

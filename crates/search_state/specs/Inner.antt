@@ -3,3 +3,4 @@ pub mod Placed
 pub mod Leaves
 pub mod Memory
 pub mod Searching
+pub mod Solving

@@ -8,7 +8,7 @@ use resolved_sort::SortId;
 use unification::{InferSortId, Lengths};
 
 // How many rows the lists of a problem have, how many components and choices a leaf has, and the default sort.
-#[derive(Clone, Copy, Drop)]
+#[derive(Clone, Copy, Debug, PartialEq, Eq)]
 pub struct Sizes {
     pub exprs: u16,
     pub constraints: u16,
@@ -23,11 +23,33 @@ pub struct Sizes {
 // another leaf had its measure. The Rust's `best`, whose measure, sorts and choices stand in the scratch.
 // They are read out at the leaf, because backtracking takes back the bindings that they are read from. An incumbent
 // that is tied and never beaten means that the list is ambiguous.
-#[derive(Clone, Copy, Drop)]
+#[derive(Clone, Copy, Debug, PartialEq, Eq)]
 pub struct State {
     pub lengths: Lengths,
     pub best: bool,
     pub tied: bool,
+}
+
+// The leaf with the least measure so far, the Rust's Candidate: its measure, sorts and choices stand in the scratch.
+// They are read out at the leaf, because backtracking takes back the bindings that they are read from. An incumbent
+// that is tied and never beaten means that the list is ambiguous.
+#[derive(Clone, Copy, Debug, PartialEq, Eq)]
+pub struct Incumbent {
+    pub tied: bool,
+}
+
+// What the search works on: the lent sorts, nodes and bindings with how much of them is in use, the scratch, the lists
+// of the problem with their sizes, and the incumbent.
+#[derive(Drop)]
+pub struct Search<'a> {
+    pub sorts: &'a mut [u16],
+    pub nodes: &'a mut [u16],
+    pub binds: &'a mut [u16],
+    pub scratch: &'a mut [u16],
+    pub lists: &'a [u16],
+    pub sizes: Sizes,
+    pub lengths: Lengths,
+    pub best: Option<Incumbent>,
 }
 
 // The state with other lengths.
@@ -43,7 +65,7 @@ pub fn with_lengths(st: State, lengths: Lengths) -> State
 
 // What a branch has taken on: how many variables are on the trail, and how many components and choices there are.
 // It goes by value: what a try adds is gone when the try is over, and no push needs a pop.
-#[derive(Clone, Copy, Drop)]
+#[derive(Clone, Copy, Debug, PartialEq, Eq)]
 pub struct Branch {
     pub trail: u16,
     pub measure: u16,
@@ -51,7 +73,7 @@ pub struct Branch {
 }
 
 // Whether a leaf was found; or the room that ended, 15 or 16, with the lengths then.
-#[derive(Clone, Copy, Drop)]
+#[derive(Clone, Copy, Debug, PartialEq, Eq)]
 pub enum Answer {
     Found(State),
     Missed(State),
@@ -60,7 +82,7 @@ pub enum Answer {
 
 // What comes next, where the Rust hands a closure to solve_widening: the constraints from a number on; or the sources
 // `from` .. `to` of a Join, widened to its target, and then the constraints from `then` on.
-#[derive(Clone, Copy, Drop)]
+#[derive(Clone, Copy, Debug, PartialEq, Eq)]
 pub enum Next {
     Solve(u16),
     Source {
@@ -72,7 +94,7 @@ pub enum Next {
 }
 
 // The places that a try makes equal: two, or two and then two more.
-#[derive(Clone, Copy, Drop)]
+#[derive(Clone, Copy, Debug, PartialEq, Eq)]
 pub enum Pairs {
     One(InferSortId, InferSortId),
     Two(InferSortId, InferSortId, InferSortId, InferSortId),
@@ -80,7 +102,7 @@ pub enum Pairs {
 
 // What a try adds to its branch: nothing; a component; components that stand in the scratch
 // already; the position of an overload.
-#[derive(Clone, Copy, Drop)]
+#[derive(Clone, Copy, Debug, PartialEq, Eq)]
 pub enum Step {
     Nothing,
     Component(u16),
@@ -89,7 +111,7 @@ pub enum Step {
 }
 
 // Up to four places.
-#[derive(Clone, Copy, Drop)]
+#[derive(Clone, Copy, Debug, PartialEq, Eq)]
 pub struct Four(
     pub InferSortId,
     pub InferSortId,
@@ -99,7 +121,7 @@ pub struct Four(
 
 // Tries one after another: each of the places against another one, on its left (up) or on its right, the first with the
 // component `first`, each next with one more.
-#[derive(Clone, Copy, Drop)]
+#[derive(Clone, Copy, Debug, PartialEq, Eq)]
 pub struct Tries {
     pub ids: Four,
     pub count: u16,
@@ -108,52 +130,13 @@ pub struct Tries {
     pub first: u16,
 }
 
-// The tries of a widening, with the lengths then; none where neither side has a list; or no room.
-#[derive(Clone, Copy, Drop)]
-pub enum Widenings {
-    These(Tries, Lengths),
-    NoList(Lengths),
-    Full(u16, Lengths),
-}
-
 // What stands at the place of a literal: a number sort that it may have, with its component; a free
 // variable; or anything else.
-#[derive(Clone, Copy, Drop)]
+#[derive(Clone, Copy, Debug, PartialEq, Eq)]
 pub enum LitAt {
     Number(u16),
     Free,
     Other,
-}
-
-// A sort that was made or found, with the lengths then; none; or no room for a sort.
-#[derive(Clone, Copy, Drop)]
-pub enum Made {
-    At(SortId, Lengths),
-    Nothing(Lengths),
-    Full(Lengths),
-}
-
-// How reading the sorts of all expressions out ended: all are there; one has none; or no room.
-#[derive(Clone, Copy, Drop)]
-pub enum Extracted {
-    All(Lengths),
-    Nothing(Lengths),
-    Full(Lengths),
-}
-
-// How two measures compare: Ordering in the Rust.
-#[derive(Clone, Copy, Drop)]
-pub enum Ordering {
-    Less,
-    Equal,
-    Greater,
-}
-
-// Whether to go on after one of several alternatives, told whether a leaf was found so far; or room ended.
-#[derive(Clone, Copy, Drop)]
-pub enum Went {
-    On(State, bool),
-    Stop(u16, Lengths),
 }
 
 // The lists of a problem in one slice, each at its ceiling: constraints first, then overloads,

@@ -21,6 +21,13 @@ use Rattle.unification.specs.declared.InferSortId.{InferSortId}
 use Rattle.unification.specs.declared.Lengths.{Lengths}
 use Rattle.unification.specs.declared.Three.{Three}
 use Rattle.unification.specs.declared.Related.{Related}
+use Rattle.unification.specs.declared.Related.TheVariants.{These, NoList, Full as Ended}
+use Rattle.unification.specs.declared.Full.{Full}
+use Rattle.unification.specs.declared.Full.TheVariants.{Sorts, Nodes}
+use Rattle.unification.proofs.Room.{no_room_is_15_or_16}
+use Rattle.std.specs.Prelude.{Option, Some, None, Result, Ok, Err}
+use mathlib.Core.Logic.{◌⊎◌, inl, inr}
+use Rattle.resolved_sort.specs.declared.NoRoom.{NoRoom}
 use Rattle.unification.specs.Nodes.{Binds, binds_of}
 use Rattle.unification.specs.Checked.{Ready, Placed}
 use Rattle.unification.specs.Making.{Lent, Makes, made, no_list, no_room, ◌and-then◌, with_sorts, intern_container, strict_related}
@@ -32,52 +39,12 @@ use Rattle.related_sorts.specs.Inner.Ranges.{SixThere}
 use Rattle.related_sorts.proofs.Laws.{full_unchanged, never_none}
 use Rattle.inference.specs.Constraints.{rows_from}
 use Rattle.inference.specs.Search.{Try, wider_tries, narrower_tries}
-use Rattle.search_state.specs.declared.State.{State}
-use Rattle.search_state.specs.declared.Answer.{Answer}
-use Rattle.search_state.specs.declared.Answer.TheVariants.{Found, Missed, Full}
-use Rattle.search_state.specs.declared.Went.TheVariants.{On, Stop}
 use Rattle.search_state.specs.declared.Pairs.TheVariants.{One}
 use Rattle.search_state.specs.declared.Four.{Four}
 use Rattle.search_state.specs.declared.Tries.{Tries}
-use Rattle.search_state.specs.declared.Widenings.{Widenings}
-use Rattle.search_state.specs.declared.Widenings.TheVariants.{These, NoList, Full as NoRoom}
-use Rattle.search_state.specs.declared.Made.{Made}
-use Rattle.search_state.specs.declared.Made.TheVariants.{At, Full as NoSortRoom}
-use Rattle.search_state.specs.Inner.Leaves.{after_of, with_nodes, with_lengths, back_to, given_back_to, places_of, try_at, tries_from}
-use Rattle.search_state.specs.Inner.Leaves.{where_no_list, widenings, widened, FewTries, FindsWidenings}
-use Rattle.search_steps.specs.Inner.Steps.{says_of, pairs_of, InternsContainer, tries_against, ListedTries, AsTries}
-
--- on after an answer
-module _ (r : Answer) (b : Bool) where
-  pub on_found : (k : State) → r ≡ Found k → On k true ≡ after_of r b
-  on_found k e = sym (ap (λ a. after_of a b) e)
-
-  pub on_missed : (k : State) → r ≡ Missed k → On k b ≡ after_of r b
-  on_missed k e = sym (ap (λ a. after_of a b) e)
-
-  pub stops : (c : ℕ) (k : Lengths) → r ≡ Full c k → Stop c k ≡ after_of r b
-  stops c k e = sym (ap (λ a. after_of a b) e)
-
-pub says_found : (b : Bool) (k : State) → b ≡ true → Found k ≡ says_of b k
-says_found b k e = sym (ap (λ x. says_of x k) e)
-
-pub says_missed : (b : Bool) (k : State) → b ≡ false → Missed k ≡ says_of b k
-says_missed b k e = sym (ap (λ x. says_of x k) e)
-
--- nodes given back
-pub back_with_nodes : (k : Lengths) (s t : State) (l : Lengths) → l ≡ with_nodes k s.lengths
-    → t ≡ with_lengths s l → t ≡ back_to k s
-back_with_nodes k s t l e f = f ∙ ap (with_lengths s) e
-
-module _ (k : Lengths) (r : Answer) where
-  pub found_back : (s t : State) → r ≡ Found s → t ≡ back_to k s → Found t ≡ given_back_to k r
-  found_back s t e f = ap Found f ∙ sym (ap (given_back_to k) e)
-
-  pub missed_back : (s t : State) → r ≡ Missed s → t ≡ back_to k s → Missed t ≡ given_back_to k r
-  missed_back s t e f = ap Missed f ∙ sym (ap (given_back_to k) e)
-
-  pub full_as_it_is : (c : ℕ) (l : Lengths) → r ≡ Full c l → Full c l ≡ given_back_to k r
-  full_as_it_is c l e = sym (ap (given_back_to k) e)
+use Rattle.search_state.specs.Inner.Leaves.{places_of, try_at, tries_from}
+use Rattle.search_state.specs.Inner.Leaves.{where_no_list, widenings, code_of, widened, FewTries, FindsWidenings}
+use Rattle.search_steps.specs.Inner.Steps.{pairs_of, InternsContainer, tries_against, ListedTries, lengths_after, Coded, AsTries}
 
 -- the j-th place, and the j-th try
 pub no_fifth_place : (f : Four) (j : ℕ) → 4 ≤ j → 0 ≡ get_or (places_of f) j 0
@@ -117,20 +84,20 @@ module _ (o : ComplexSort) (s : ℕ) (ws : List ℕ) (k : Lengths) (c : Counts) 
     unfolding intern_container
     makes ns = ap (λ (r : Stored). with_sorts (lent ws ns k) r r.answer) interned
 
-    pub interned_at : (id : SortId) (K : Counts) → j ≡ JoinedAt id K → (k' : Lengths) → k' ≡ with_counts k K → InternsContainer o s ws k ws₁ (At id k')
+    pub interned_at : (id : SortId) (K : Counts) → j ≡ JoinedAt id K → (k' : Lengths) → k' ≡ with_counts k K → InternsContainer o s ws k ws₁ k' (Ok id)
     unfolding InternsContainer
     interned_at id K x k' e ns = ap (λ (l : Lengths). made id.0 (lent ws₁ ns l)) e ∙ (ap (with_sorts (lent ws ns k) (stored_at ws₁ j)) (sym x) ∙ makes ns)
 
     module _ (ck : Checked ws k.sorts k.entries) where
-      pub no_room_for_container : j ≡ JoinedFull → InternsContainer o s ws k ws₁ (NoSortRoom k)
+      pub no_room_for_container : j ≡ JoinedFull → (y : NoRoom) → InternsContainer o s ws k ws₁ k (Err y)
       unfolding InternsContainer
-      no_room_for_container x ns =
+      no_room_for_container x y ns =
           ap (λ (ys : List ℕ). no_room 15 (lent ys ns k)) (full_unchanged ws k.sorts k.entries ck
           (container o (look (trees ws k.sorts) s)) ws₁ (ap (stored_at ws₁) (sym x) ∙ interned))
           ∙ (ap (with_sorts (lent ws ns k) (stored_at ws₁ j)) (sym x) ∙ makes ns)
 
-      pub always_interned : (K : Counts) → j ≡ JoinedNothing K → (r : Made) → InternsContainer o s ws k ws₁ r
-      always_interned K x r = never_none ws k.sorts k.entries ck (container o (look (trees ws k.sorts) s)) ws₁ K (ap (stored_at ws₁) (sym x) ∙ interned)
+      pub always_interned : (K : Counts) → j ≡ JoinedNothing K → (k' : Lengths) (r : Result SortId NoRoom) → InternsContainer o s ws k ws₁ k' r
+      always_interned K x k' r = never_none ws k.sorts k.entries ck (container o (look (trees ws k.sorts) s)) ws₁ K (ap (stored_at ws₁) (sym x) ∙ interned)
 
 -- four places of these numbers
 abbrev pub four_of : ℕ → ℕ → ℕ → ℕ → Four
@@ -165,23 +132,52 @@ module _ (up : Bool) (o : ℕ) (a : Related) where
   as_listed : (x : Related) → a ≡ x → (ws ns : List ℕ) → (related_made ws ns x and-then in_turn) ≡ (related_made ws ns a and-then in_turn)
   as_listed x e ws ns = sym (ap (λ (y : Related). related_made ws ns y and-then in_turn) e)
 
-  pub few_listed : Ranges a → (p : Three) (k : Lengths) → a ≡ Related.These p k → p.count ≤ 3
+  pub few_listed : Ranges a → (p : Three) (k : Lengths) → a ≡ These p k → p.count ≤ 3
   few_listed r p k e = subst Ranges e r
 
-  pub these_as_tries : (p : Three) (k : Lengths) → a ≡ Related.These p k → (t : Tries) → ListedTries up o (three_places p) t → AsTries up o a (These t k)
+  pub these_as_tries : (p : Three) (k : Lengths) → a ≡ These p k → (t : Tries) → ListedTries up o (three_places p) t → AsTries up o a (Ok (Some t))
   these_as_tries p k e t h =
-      record { says = λ ws ns. ap (λ ts. made ts (lent ws ns k)) h.says ∙ as_listed (Related.These p k) e ws ns; few = (h.few, h.first) }
+      record {
+        says = λ ws ns. ap (λ (l : Lengths). widened ws ns l (Ok (Some t))) (ap lengths_after e)
+            ∙ (ap (λ ts. made ts (lent ws ns k)) h.says ∙ as_listed (These p k) e ws ns);
+        few = (h.few, h.first);
+      }
 
-  pub no_list_as_tries : (k : Lengths) → a ≡ Related.NoList k → AsTries up o a (NoList k)
-  no_list_as_tries k e = record { says = as_listed (Related.NoList k) e; few = tt }
+  pub no_list_as_tries : (k : Lengths) → a ≡ NoList k → AsTries up o a (Ok None)
+  no_list_as_tries k e =
+      record { says = λ ws ns. ap (λ (l : Lengths). no_list (lent ws ns l)) (ap lengths_after e) ∙ as_listed (NoList k) e ws ns; few = tt }
 
-  pub no_room_as_tries : (c : ℕ) (k : Lengths) → a ≡ Related.Full c k → AsTries up o a (NoRoom c k)
-  no_room_as_tries c k e = record { says = as_listed (Related.Full c k) e; few = tt }
+  pub no_room_as_tries : (f : Full) (k : Lengths) → a ≡ Ended (code_of f) k → AsTries up o a (Err f)
+  no_room_as_tries f k e =
+      record {
+        says = λ ws ns. ap (λ (l : Lengths). no_room (code_of f) (lent ws ns l)) (ap lengths_after e) ∙ as_listed (Ended (code_of f) k) e ws ns;
+        few = tt;
+      }
+
+  -- the room that ended, by its number
+  pub ended_sorts : (c : ℕ) (k : Lengths) → a ≡ Ended c k → c ≡ 15 → a ≡ Ended (code_of Sorts) k
+  ended_sorts c k e q = e ∙ ap (λ (n : ℕ). Ended n k) q
+
+  pub ended_nodes : (c : ℕ) (k : Lengths) → a ≡ Ended c k → Coded a → (c ≡ 15 → ⊥) → a ≡ Ended (code_of Nodes) k
+  ended_nodes c k e h n = e ∙ ap (λ (m : ℕ). Ended m k) (go (subst Coded e h))
+    where
+      go : (c ≡ 15) ⊎ (c ≡ 16) → c ≡ 16
+      go (inl q) = absurd (n q)
+      go (inr q) = q
+
+-- room that ends in listing is 15 or 16
+pub coded : (up : Bool) (B : Binds) (p : ℕ) (W : Lent) (ws ns : List ℕ) (a : Related) → Relates ws ns a (strict_related up B p W) → Coded a
+coded up B p W ws ns (These t k) h = tt
+coded up B p W ws ns (NoList k) h = tt
+coded up B p W ws ns (Ended c k) h = no_room_is_15_or_16 W up B p c (lent ws ns k) (sym h.says)
 
 -- The tries of a widening: what the left side lists, as tries; where it has no list nothing was made, and the right side is asked.
 module _ (ws ns bs : List ℕ) (k : Lengths) (q : Ready ws ns bs k) (l r : ℕ) (ws₁ ns₁ : List ℕ) (a : Related)
     (h : Relates ws₁ ns₁ a (strict_related true (binds_of bs k.variables) l (lent ws ns k)))
-    (x : Widenings) (t : AsTries true r a x) where
+    (x : Result (Option Tries) Full) (t : AsTries true r a x) where
+  abbrev k' : Lengths
+  k' = lengths_after a
+
   abbrev W : Lent
   W = lent ws ns k
 
@@ -194,20 +190,20 @@ module _ (ws ns bs : List ℕ) (k : Lengths) (q : Ready ws ns bs k) (l r : ℕ) 
   abbrev of_right : Lent → Makes (List Try)
   of_right U = strict_related false B r U and-then (λ ps X. made (narrower_tries l 1 ps) X)
 
-  left_tried : widened ws₁ ns₁ x ≡ of_left
+  left_tried : widened ws₁ ns₁ k' x ≡ of_left
   left_tried = t.says ws₁ ns₁ ∙ ap (λ O. O and-then (λ ps X. made (wider_tries r 1 ps) X)) h.says
 
-  from_left : (y : Widenings) → x ≡ y → where_no_list (widened ws₁ ns₁ y) of_right ≡ widenings B l r W
+  from_left : (y : Result (Option Tries) Full) → x ≡ y → where_no_list (widened ws₁ ns₁ k' y) of_right ≡ widenings B l r W
   unfolding widenings
-  from_left y e = ap (λ z. where_no_list (widened ws₁ ns₁ z) of_right) (sym e) ∙ ap (λ O. where_no_list O of_right) left_tried
+  from_left y e = ap (λ z. where_no_list (widened ws₁ ns₁ k' z) of_right) (sym e) ∙ ap (λ O. where_no_list O of_right) left_tried
 
-  pub wider_tried : (ts : Tries) (k' : Lengths) → x ≡ These ts k' → FindsWidenings ws₁ ns₁ (These ts k') (widenings B l r W)
-  wider_tried ts k' e = record { says = from_left (These ts k') e; few = subst FewTries e t.few }
+  pub wider_tried : (ts : Tries) → x ≡ Ok (Some ts) → FindsWidenings ws₁ ns₁ k' (Ok (Some ts)) (widenings B l r W)
+  wider_tried ts e = record { says = from_left (Ok (Some ts)) e; few = subst FewTries e t.few }
 
-  pub wider_no_room : (c : ℕ) (k' : Lengths) → x ≡ NoRoom c k' → FindsWidenings ws₁ ns₁ (NoRoom c k') (widenings B l r W)
-  wider_no_room c k' e = record { says = from_left (NoRoom c k') e; few = tt }
+  pub wider_no_room : (f : Full) → x ≡ Err f → FindsWidenings ws₁ ns₁ k' (Err f) (widenings B l r W)
+  wider_no_room f e = record { says = from_left (Err f) e; few = tt }
 
-  module _ (k' : Lengths) (e : x ≡ NoList k') where
+  module _ (e : x ≡ Ok None) where
     not_listed : (O : Makes (List ℕ)) → no_list (lent ws₁ ns₁ k') ≡ (O and-then (λ ps X. made (wider_tries r 1 ps) X)) → O ≡ no_list (lent ws₁ ns₁ k')
     not_listed (made ps X) z = no_confusion (cc)
     not_listed (no_list X) z = cc
@@ -215,7 +211,7 @@ module _ (ws ns bs : List ℕ) (k : Lengths) (q : Ready ws ns bs k) (l r : ℕ) 
 
     nothing_made : lent ws₁ ns₁ k' ≡ W
     nothing_made =
-        no_list_makes_nothing W bs q true l (lent ws₁ ns₁ k') (not_listed (strict_related true B l W) (ap (widened ws₁ ns₁) (sym e) ∙ left_tried))
+        no_list_makes_nothing W bs q true l (lent ws₁ ns₁ k') (not_listed (strict_related true B l W) (ap (widened ws₁ ns₁ k') (sym e) ∙ left_tried))
 
     pub right_asked : Placed k r → SixThere k → Ready ws₁ ns₁ bs k' × Placed k' r × SixThere k'
     right_asked i six = (
@@ -225,9 +221,9 @@ module _ (ws ns bs : List ℕ) (k : Lengths) (q : Ready ws ns bs k) (l r : ℕ) 
     )
 
     pub narrower_tried : (ws₂ ns₂ : List ℕ) (a₂ : Related)
-        → Relates ws₂ ns₂ a₂ (strict_related false (binds_of bs k'.variables) r (lent ws₁ ns₁ k')) → (y : Widenings)
+        → Relates ws₂ ns₂ a₂ (strict_related false (binds_of bs k'.variables) r (lent ws₁ ns₁ k')) → (y : Result (Option Tries) Full)
         → AsTries false l a₂ y
-        → FindsWidenings ws₂ ns₂ y (widenings B l r W)
+        → FindsWidenings ws₂ ns₂ (lengths_after a₂) y (widenings B l r W)
     narrower_tried ws₂ ns₂ a₂ h₂ y t₂ =
         record {
           says =
@@ -235,6 +231,6 @@ module _ (ws ns bs : List ℕ) (k : Lengths) (q : Ready ws ns bs k) (l r : ℕ) 
               ∙ (ap (λ O. O and-then (λ ps X. made (narrower_tries l 1 ps) X)) h₂.says
               ∙ (ap (λ (n : ℕ). strict_related false (binds_of bs n) r (lent ws₁ ns₁ k') and-then
               (λ ps X. made (narrower_tries l 1 ps) X)) (ap (λ (U : Lent). U.lengths.variables) nothing_made)
-              ∙ from_left (NoList k') e));
+              ∙ from_left (Ok None) e));
           few = t₂.few;
         }

@@ -3,7 +3,7 @@
 // a literal, from solve_widening and solve_lit.
 #![tactic(auto)]
 
-ghost use Rattle.std.specs.Prelude.{◌≡◌, true, false, ◌+◌, ◌<◌, ◌≤◌, get_or, take, length};
+ghost use Rattle.std.specs.Prelude.{◌≡◌, true, false, ◌+◌, ◌-◌, ◌<◌, ◌≤◌, get_or, take, length};
 ghost use Rattle.resolved_sort.specs.Rows.{Checked};
 ghost use Rattle.unification.specs.Nodes.{binds_of};
 ghost use Rattle.unification.specs.Checked.{graph_of, Ready, Placed};
@@ -12,54 +12,53 @@ ghost use Rattle.related_sorts.specs.Inner.Ranges.{SixThere};
 ghost use Rattle.inference.specs.Search.{lit_component};
 ghost use Rattle.inference.specs.Constraints.{max_constraints, max_components};
 ghost use Rattle.search_state.specs.Inner.Memory.{trail_words, scratch_used};
-ghost use Rattle.search_state.specs.Inner.Leaves.{after_of, with_nodes, back_to, given_back_to, places_of, try_at};
+ghost use Rattle.search_state.specs.Inner.Leaves.{with_nodes, places_of, try_at};
 ghost use Rattle.search_state.specs.Inner.Leaves.{widenings, FindsWidenings, lit_number, lit_at, unify_pairs};
 ghost use Rattle.search_state.specs.Inner.Leaves.{PairsPlaced, TriesPairs, step_words, added_components, added_choices};
 ghost use Rattle.search_state.specs.Inner.Leaves.{branch_after};
-ghost use Rattle.search_steps.specs.Inner.Steps.{says_of, pairs_of, lit_row, LitTries, InternsContainer};
-ghost use Rattle.search_steps.specs.Inner.Steps.{ListedTries, AsTries};
+ghost use Rattle.search_state.specs.Inner.Solving.{KeepsRest, OnlyBinds, OnlyScratch, OnlySorts, lent_of};
+ghost use Rattle.search_steps.specs.Inner.Steps.{pairs_of, lit_row, LitTries, InternsContainer};
+ghost use Rattle.search_steps.specs.Inner.Steps.{ListedTries, AsTries, Coded, lengths_after};
 ghost use Rattle.unification.specs.Unify.{unify as unifyOf};
+ghost use Rattle.unification.specs.Trail.{undo as undoOf};
 ghost use Rattle.unifier.specs.Inner.Trying.{Trying};
-ghost use Rattle.unification.specs.Inner.Making.{lent};
 
 use infer_nodes::{counts_of, node, shallow_normalize, taken_apart, with_counts};
 use inference::LitKind;
 use related_sorts::{strict_sub_sorts, strict_super_sorts};
-use resolved_sort::{ComplexSort, Joined, ResolvedSort, Sort, SortId};
+use resolved_sort::{ComplexSort, Joined, NoRoom, ResolvedSort, Sort, SortId};
 use search_state::{
-    Answer, Branch, CHOICES_AT, Four, LitAt, MEASURE_AT, Made, Pairs, State, Step, Tries, Went,
-    Widenings, with_lengths,
+    Branch, CHOICES_AT, Four, LitAt, MEASURE_AT, Pairs, Search, Step, TRAIL_WORDS, Tries,
 };
 use sort_interner::{generic, get};
 use sort_order::lent::{Amount, number_generality};
-use unification::{InferSort, InferSortId, Lengths, Place, Related, Three, Tried};
-use unifier::unify;
+use unification::{Full, InferSort, InferSortId, Lengths, Place, Related, Three, Tried};
+use unifier::{undo, unify};
 
-// Makes two places equal.
-fn unify_pair(
-    sorts: &[u16],
-    nodes: &[u16],
-    binds: &mut [u16],
-    scratch: &mut [u16],
-    lengths: Lengths,
-    count: u16,
-    lhs: InferSortId,
-    rhs: InferSortId,
-) -> Tried
-    requires { Trying sorts.now nodes.now binds.old (take trail_words scratch.old) lengths count
-        × Placed lengths lhs.0
-        × Placed lengths rhs.0
-        × (scratch_used ≤ length scratch.old) }
-    ensures { TriesPairs sorts.now nodes.now lengths
-        (unifyOf (graph_of sorts.now nodes.now lengths)
-        (binds_of binds.old lengths.variables) lhs.0 rhs.0)
-        binds.old scratch.old count binds.new scratch.new result }
+// Makes two places equal, after so many variables on the trail.
+fn unify_pair(search: &mut Search<'_>, count: u16, lhs: InferSortId, rhs: InferSortId) -> Tried
+    requires { Trying search.old.sorts.now search.old.nodes.now search.old.binds.now
+        (take trail_words search.old.scratch.now) search.old.lengths count
+        × Placed search.old.lengths lhs.0
+        × Placed search.old.lengths rhs.0
+        × (scratch_used ≤ length search.old.scratch.now) }
+    ensures { TriesPairs search.old.sorts.now search.old.nodes.now search.old.lengths
+        (unifyOf (graph_of search.old.sorts.now search.old.nodes.now search.old.lengths)
+        (binds_of search.old.binds.now search.old.lengths.variables) lhs.0 rhs.0)
+        search.old.binds.now search.old.scratch.now count search.new.binds.now search.new.scratch.now
+        result
+        × OnlyBinds search.old search.new }
 {
+    let lengths = search.lengths;
+    let sorts = &mut *search.sorts;
+    let nodes = &mut *search.nodes;
+    let binds = &mut *search.binds;
+    let scratch = &mut *search.scratch;
     unify(
         sorts,
         nodes,
         binds,
-        &mut scratch[0..512],
+        &mut scratch[0..TRAIL_WORDS],
         lengths,
         count,
         lhs,
@@ -68,42 +67,47 @@ fn unify_pair(
 }
 
 // Makes the places of a try equal, one pair after the other.
-pub fn unify_pairs(
-    sorts: &[u16],
-    nodes: &[u16],
-    binds: &mut [u16],
-    scratch: &mut [u16],
-    lengths: Lengths,
-    count: u16,
-    pairs: Pairs,
-) -> Tried
-    requires { Trying sorts.now nodes.now binds.old (take trail_words scratch.old) lengths count
-        × PairsPlaced lengths pairs
-        × (scratch_used ≤ length scratch.old) }
-    ensures { TriesPairs sorts.now nodes.now lengths
-        (unify_pairs (graph_of sorts.now nodes.now lengths) pairs
-        (binds_of binds.old lengths.variables))
-        binds.old scratch.old count binds.new scratch.new result }
+pub fn unify_pairs(search: &mut Search<'_>, count: u16, pairs: Pairs) -> Tried
+    requires { Trying search.old.sorts.now search.old.nodes.now search.old.binds.now
+        (take trail_words search.old.scratch.now) search.old.lengths count
+        × PairsPlaced search.old.lengths pairs
+        × (scratch_used ≤ length search.old.scratch.now) }
+    ensures { TriesPairs search.old.sorts.now search.old.nodes.now search.old.lengths
+        (unify_pairs (graph_of search.old.sorts.now search.old.nodes.now search.old.lengths) pairs
+        (binds_of search.old.binds.now search.old.lengths.variables))
+        search.old.binds.now search.old.scratch.now count search.new.binds.now search.new.scratch.now
+        result
+        × OnlyBinds search.old search.new }
 {
     match pairs {
-        Pairs::One(lhs, rhs) => unify_pair(sorts, nodes, binds, scratch, lengths, count, lhs, rhs),
-        Pairs::Two(lhs, rhs, then_lhs, then_rhs) => {
-            match unify_pair(sorts, nodes, binds, scratch, lengths, count, lhs, rhs) {
-                Tried::Yes(more) => unify_pair(
-                    sorts, nodes, binds, scratch, lengths, more, then_lhs, then_rhs,
-                ),
-                Tried::No(more) => Tried::No(more),
-            }
-        }
+        Pairs::One(lhs, rhs) => unify_pair(search, count, lhs, rhs),
+        Pairs::Two(lhs, rhs, then_lhs, then_rhs) => match unify_pair(search, count, lhs, rhs) {
+            Tried::Yes(more) => unify_pair(search, more, then_lhs, then_rhs),
+            Tried::No(more) => Tried::No(more),
+        },
     }
 }
 
+// Frees the variables on the trail from `base` on, of `count`.
+pub fn roll_back(search: &mut Search<'_>, base: u16, count: u16)
+    requires { (base ≤ count) × (count ≤ length search.old.scratch.now) }
+    ensures { (search.new.binds.now
+        ≡ undoOf search.old.scratch.now base (count - base) search.old.binds.now)
+        × OnlyBinds search.old search.new
+        × (search.new.scratch.now ≡ search.old.scratch.now) }
+{
+    let scratch = &mut *search.scratch;
+    undo(search.binds, scratch, base, count);
+}
+
 // What a step adds to a branch with so many variables on the trail.
-pub fn push(scratch: &mut [u16], at: Branch, trail: u16, step: Step) -> Branch
+pub fn push(search: &mut Search<'_>, at: Branch, trail: u16, step: Step) -> Branch
     requires { (at.measure + added_components step ≤ max_components)
         × (at.choices + added_choices step ≤ max_constraints)
-        × (scratch_used ≤ length scratch.old) }
-    ensures { (scratch.new ≡ step_words step at scratch.old) × (result ≡ branch_after at trail step) }
+        × (scratch_used ≤ length search.old.scratch.now) }
+    ensures { (search.new.scratch.now ≡ step_words step at search.old.scratch.now)
+        × (result ≡ branch_after at trail step)
+        × OnlyScratch search.old search.new }
 {
     let measure = at.measure;
     let choices = at.choices;
@@ -114,7 +118,7 @@ pub fn push(scratch: &mut [u16], at: Branch, trail: u16, step: Step) -> Branch
             choices,
         },
         Step::Component(component) => {
-            scratch[MEASURE_AT + measure as usize] = component;
+            search.scratch[MEASURE_AT + measure as usize] = component;
             Branch {
                 trail,
                 measure: measure + 1,
@@ -127,7 +131,7 @@ pub fn push(scratch: &mut [u16], at: Branch, trail: u16, step: Step) -> Branch
             choices,
         },
         Step::Choice(position) => {
-            scratch[CHOICES_AT + choices as usize] = position;
+            search.scratch[CHOICES_AT + choices as usize] = position;
             Branch {
                 trail,
                 measure,
@@ -137,56 +141,15 @@ pub fn push(scratch: &mut [u16], at: Branch, trail: u16, step: Step) -> Branch
     }
 }
 
-// On after one of several alternatives.
-pub fn after(r: Answer, found: bool) -> Went
-    ensures { result ≡ after_of r found }
-{
-    match r {
-        Answer::Found(st) => Went::On(st, true),
-        Answer::Missed(st) => Went::On(st, found),
-        Answer::Full(code, lengths) => Went::Stop(code, lengths),
-    }
-}
-
-// Whether a leaf was found, as an answer.
-pub fn says(found: bool, st: State) -> Answer
-    ensures { result ≡ says_of found st }
-{
-    if found {
-        return Answer::Found(st);
-    }
-    Answer::Missed(st)
-}
-
-// The nodes made since `kept` given back.
-fn with_nodes(kept: Lengths, lengths: Lengths) -> Lengths
+// The nodes made since `kept` given back, after the tries of a widening.
+// Merc leaves nodes of an abandoned branch in its arena as harmless garbage. Here room has an end, so it is used again.
+pub fn give_back(kept: Lengths, lengths: Lengths) -> Lengths
     ensures { result ≡ with_nodes kept lengths }
 {
     Lengths {
-        sorts: lengths.sorts,
-        entries: lengths.entries,
         nodes: kept.nodes,
         arguments: kept.arguments,
-        variables: lengths.variables,
-    }
-}
-
-fn back_to(kept: Lengths, st: State) -> State
-    ensures { result ≡ back_to kept st }
-{
-    let lengths = st.lengths;
-    with_lengths(st, with_nodes(kept, lengths))
-}
-
-// After the tries of a widening: the nodes made for them are given back, unless room ended.
-// Merc leaves nodes of an abandoned branch in its arena as harmless garbage. Here room has an end, so it is used again.
-pub fn give_back(r: Answer, lengths: Lengths) -> Answer
-    ensures { result ≡ given_back_to lengths r }
-{
-    match r {
-        Answer::Found(st) => Answer::Found(back_to(lengths, st)),
-        Answer::Missed(st) => Answer::Missed(back_to(lengths, st)),
-        Answer::Full(code, then) => Answer::Full(code, then),
+        ..lengths
     }
 }
 
@@ -258,23 +221,17 @@ pub fn lit_tries(kind: LitKind, id: InferSortId) -> Tries
 }
 
 // What stands at the end of a literal's place.
-pub fn lit_at(
-    sorts: &[u16],
-    nodes: &[u16],
-    binds: &[u16],
-    lengths: Lengths,
-    id: InferSortId,
-    kind: LitKind,
-) -> LitAt
-    requires { Ready sorts.now nodes.now binds.now lengths × Placed lengths id.0 }
+pub fn lit_at(search: &Search<'_>, id: InferSortId, kind: LitKind) -> LitAt
+    requires { Ready search.now.sorts.now search.now.nodes.now search.now.binds.now search.now.lengths
+        × Placed search.now.lengths id.0 }
     ensures { result
-        ≡ lit_at kind (graph_of sorts.now nodes.now lengths)
-        (binds_of binds.now lengths.variables) id.0 }
+        ≡ lit_at kind (graph_of search.now.sorts.now search.now.nodes.now search.now.lengths)
+        (binds_of search.now.binds.now search.now.lengths.variables) id.0 }
 {
-    let end = shallow_normalize(sorts, nodes, binds, lengths, id);
+    let end = shallow_normalize(search.sorts, search.nodes, search.binds, search.lengths, id);
     match taken_apart(end) {
-        Place::Sort(sort) => lit_at_row(get(sorts, sort), kind),
-        Place::Node(at) => match node(nodes, at) {
+        Place::Sort(sort) => lit_at_row(get(search.sorts, sort), kind),
+        Place::Node(at) => match node(search.nodes, at) {
             InferSort::Generic { op: _, subsort: _ } => LitAt::Other,
             InferSort::Function {
                 domain: _,
@@ -323,20 +280,26 @@ fn lit_at_number(sort: Sort, kind: LitKind) -> LitAt
     }
 }
 
-// The container of a comprehension, interned.
+// The container of a comprehension, interned. What is interned is always there afterwards.
 pub fn intern_container(
-    sorts: &mut [u16],
-    lengths: Lengths,
+    search: &mut Search<'_>,
     op: ComplexSort,
     element: SortId,
-) -> Made
-    requires { Checked sorts.old lengths.sorts lengths.entries × (element.0 < lengths.sorts) }
-    ensures { InternsContainer op element.0 sorts.old lengths sorts.new result }
+) -> Result<SortId, NoRoom>
+    requires { Checked search.old.sorts.now search.old.lengths.sorts search.old.lengths.entries
+        × (element.0 < search.old.lengths.sorts) }
+    ensures { InternsContainer op element.0 search.old.sorts.now search.old.lengths
+        search.new.sorts.now search.new.lengths result
+        × OnlySorts search.old search.new }
 {
-    match generic(sorts, counts_of(lengths), op, element) {
-        Joined::At(id, made) => Made::At(id, with_counts(lengths, made)),
-        Joined::Nothing(_) => Made::Nothing(lengths),
-        Joined::Full => Made::Full(lengths),
+    let counts = counts_of(search.lengths);
+    match generic(search.sorts, counts, op, element) {
+        Joined::At(id, made) => {
+            search.lengths = with_counts(search.lengths, made);
+            Ok(id)
+        }
+        Joined::Nothing(_) => Err(NoRoom),
+        Joined::Full => Err(NoRoom),
     }
 }
 
@@ -358,16 +321,30 @@ fn listed_tries(places: Three, other: InferSortId, up: bool) -> Tries
 }
 
 // The same of what was listed, if anything.
-fn as_tries(found: Related, other: InferSortId, up: bool) -> Widenings
-    requires { Ranges found }
+fn as_tries(found: Related, other: InferSortId, up: bool) -> Result<Option<Tries>, Full>
+    requires { Ranges found × Coded found }
     ensures { AsTries up other.0 found result }
 {
     match found {
-        Related::These(places, lengths) => {
-            Widenings::These(listed_tries(places, other, up), lengths)
+        Related::These(places, _) => Ok(Some(listed_tries(places, other, up))),
+        Related::NoList(_) => Ok(None),
+        Related::Full(code, _) => {
+            if code == 15 {
+                return Err(Full::Sorts);
+            }
+            Err(Full::Nodes)
         }
-        Related::NoList(lengths) => Widenings::NoList(lengths),
-        Related::Full(code, lengths) => Widenings::Full(code, lengths),
+    }
+}
+
+// The lengths after listing.
+fn lengths_after(found: Related) -> Lengths
+    ensures { result ≡ lengths_after found }
+{
+    match found {
+        Related::These(_, lengths) => lengths,
+        Related::NoList(lengths) => lengths,
+        Related::Full(_, lengths) => lengths,
     }
 }
 
@@ -375,30 +352,30 @@ fn as_tries(found: Related, other: InferSortId, up: bool) -> Widenings
 // first; or, where `lhs` has no list, `lhs` against each narrower sort of `rhs`. An empty list is a list.
 // So a concrete `lhs` is upcast, or a concrete `rhs` met from below; two free variables admit no enumeration.
 pub fn widenings_of(
-    sorts: &mut [u16],
-    nodes: &mut [u16],
-    binds: &[u16],
-    lengths: Lengths,
+    search: &mut Search<'_>,
     lhs: InferSortId,
     rhs: InferSortId,
-) -> Widenings
-    requires { Ready sorts.old nodes.old binds.now lengths
-        × Placed lengths lhs.0
-        × Placed lengths rhs.0
-        × SixThere lengths }
-    ensures { FindsWidenings sorts.new nodes.new result
-        (widenings (binds_of binds.now lengths.variables) lhs.0 rhs.0
-        (lent sorts.old nodes.old lengths)) }
+) -> Result<Option<Tries>, Full>
+    requires { Ready search.old.sorts.now search.old.nodes.now search.old.binds.now search.old.lengths
+        × Placed search.old.lengths lhs.0
+        × Placed search.old.lengths rhs.0
+        × SixThere search.old.lengths }
+    ensures { FindsWidenings search.new.sorts.now search.new.nodes.now search.new.lengths result
+        (widenings (binds_of search.old.binds.now search.old.lengths.variables) lhs.0 rhs.0
+        (lent_of search.old))
+        × KeepsRest search.old search.new
+        × (search.new.scratch.now ≡ search.old.scratch.now) }
 {
-    match as_tries(
-        strict_super_sorts(sorts, nodes, binds, lengths, lhs),
-        rhs,
-        true,
-    ) {
-        Widenings::These(tries, then) => Widenings::These(tries, then),
-        Widenings::NoList(same) => {
-            as_tries(strict_sub_sorts(sorts, nodes, binds, same, rhs), lhs, false)
-        }
-        Widenings::Full(code, then) => Widenings::Full(code, then),
+    let given = search.lengths;
+    let binds = &mut *search.binds;
+    let wider = strict_super_sorts(search.sorts, search.nodes, binds, given, lhs);
+    let lengths = lengths_after(wider);
+    search.lengths = lengths;
+    if let Some(tries) = as_tries(wider, rhs, true)? {
+        return Ok(Some(tries));
     }
+    let binds = &mut *search.binds;
+    let narrower = strict_sub_sorts(search.sorts, search.nodes, binds, lengths, rhs);
+    search.lengths = lengths_after(narrower);
+    as_tries(narrower, lhs, false)
 }

@@ -60,7 +60,7 @@ fn search(
 {
     let st = no_incumbent(lengths);
     let at = nothing_taken();
-    let answer = solver::solve(sorts, nodes, binds, scratch, lists, sizes, st, at, 0);
+    let answer = solver::solve_lent(sorts, nodes, binds, scratch, lists, sizes, st, at, 0);
     finish(
         sorts, nodes, scratch, typing, measure, choices, lists, names, name_count, sizes, lengths,
         answer,

@@ -2,7 +2,8 @@
 -- after another; the head distances are written behind the branch's own words. Assumes nothing.
 use mathlib.Core.Path.{◌≡◌, refl, sym, ap, ◌∙◌, subst}
 use mathlib.Core.Bool.{Bool, cond}
-use mathlib.Core.Option.{none, some}
+use mathlib.Core.Option.{some}
+use mathlib.Core.Option.{none}
 use mathlib.Core.List.{List, [], ◌∷◌}
 use Prim.Native.Nat.{ℕ, ◌+◌, ◌-◌, ◌<◌, ◌≤◌}
 use native.Mathlib.Omega.{arith}
@@ -27,9 +28,9 @@ use Rattle.search_state.specs.declared.Answer.{Answer}
 use Rattle.search_state.specs.declared.Answer.TheVariants.{Missed, Full}
 use Rattle.resolved_sort.specs.declared.Run.{Run}
 use Rattle.resolved_sort.specs.declared.SortId.{SortId}
+use Rattle.resolved_sort.specs.declared.NoRoom.{NoRoom}
+use Rattle.std.specs.Prelude.{Option, Some, None, Result, Ok, Err}
 use Rattle.inference.proofs.MakingSorts.{MadeSorts, Agree, join_of_makes}
-use Rattle.search_state.specs.declared.Made.{Made}
-use Rattle.search_state.specs.declared.Made.TheVariants.{At, Nothing as NoSort, Full as NoSortRoom}
 use Rattle.search_state.specs.declared.Next.TheVariants.{Solve, Source}
 use Rattle.search_state.specs.declared.Pairs.TheVariants.{One}
 use Rattle.search_state.specs.declared.Step.TheVariants.{Written}
@@ -130,14 +131,15 @@ module _ (ls : List ℕ) (z : Sizes) (ws ns bs sc : List ℕ) (k : State) (e : B
         few = s.few;
       }
 
-  module _ (ws₁ sc₁ : List ℕ) (m : Made) (A : AgreesOn ns sc e run.count (join_of (binds_of bs k.lengths.variables) ps W) ws₁ sc₁ m) where
+  module _ (ws₁ sc₁ : List ℕ) (x : Lengths) (m : Result (Option SortId) NoRoom)
+      (A : AgreesOn ns sc e run.count (join_of (binds_of bs k.lengths.variables) ps W) ws₁ sc₁ x m) where
     same_words : SamePath e sc sc₁
     same_words = behind_measure ls z S.sized sc sc₁ e run.count (omega (arith, S.trail)) room A.changed
 
     best_same : best_of ls z sc₁ k.best k.tied ≡ best_of ls z sc k.best k.tied
     best_same = best_behind_measure ls z S.sized sc sc₁ e run.count (omega (arith, S.trail)) room A.changed k.best k.tied
 
-    makes : MadeSorts (Agree W (binds_of bs k.lengths.variables) ps) (Unit {0}) W (agreement_of ws₁ ns sc₁ e run.count m)
+    makes : MadeSorts (Agree W (binds_of bs k.lengths.variables) ps) (Unit {0}) W (agreement_of ws₁ ns sc₁ e run.count x m)
     makes = subst (MadeSorts (Agree W (binds_of bs k.lengths.variables) ps) (Unit {0}) W) (sym A.says)
         (join_of_makes W S.ready.nodes (binds_of bs k.lengths.variables) S.ready.binds ps all_placed)
 
@@ -145,12 +147,12 @@ module _ (ls : List ℕ) (z : Sizes) (ws ns bs sc : List ℕ) (k : State) (e : B
     abbrev after : Agreed → World (Unit {0}) → Out (Unit {0})
     after a v = else_try (unifying path.binds t.0 a.sort (λ C. solve_from ls z i (with_components path a.components C)) v) (seq path)
 
-    by_agreement : on_made (agreement_of ws₁ ns sc₁ e run.count m) after (seq path) w ≡ goal path w
+    by_agreement : on_made (agreement_of ws₁ ns sc₁ e run.count x m) after (seq path) w ≡ goal path w
     unfolding joining
-    by_agreement = ap (λ x. on_made x after (seq path) w) A.says
+    by_agreement = ap (λ y. on_made y after (seq path) w) A.says
 
     -- what is done after the sources were looked at, from the start
-    module _ (x : Lengths) (only : SortsOnly W (lent ws₁ ns x)) (k₁ : State) (u : k₁ ≡ with_lengths k x) where
+    module _ (only : SortsOnly W (lent ws₁ ns x)) (k₁ : State) (u : k₁ ≡ with_lengths k x) where
       grown : SortsOnly W (lent ws₁ ns k₁.lengths)
       grown = subst (λ (y : State). SortsOnly W (lent ws₁ ns y.lengths)) (sym u) only
 
@@ -180,47 +182,47 @@ module _ (ls : List ℕ) (z : Sizes) (ws ns bs sc : List ℕ) (k : State) (e : B
             (lent ws₁ ns k₁.lengths) grown.grows _ F.placed;
       }
 
-    module _ (x : Lengths) (q : m ≡ NoSort x) (k₁ : State) (u : k₁ ≡ with_lengths k x) where
+    module _ (q : m ≡ Ok None) (k₁ : State) (u : k₁ ≡ with_lengths k x) where
       only_none : SortsOnly W (lent ws₁ ns x)
       unfolding MadeSorts
-      only_none = (subst (λ y. MadeSorts (Agree W (binds_of bs k.lengths.variables) ps) (Unit {0}) W (agreement_of ws₁ ns sc₁ e run.count y)) q makes).0
+      only_none = (subst (λ y. MadeSorts (Agree W (binds_of bs k.lengths.variables) ps) (Unit {0}) W (agreement_of ws₁ ns sc₁ e run.count x y)) q makes).0
 
       pub none_asked : Searching ws₁ ns bs sc₁ ls z k₁ e 0 [] (Source t run.start (run.start + run.count) i)
-      none_asked = in_turn ws₁ ns bs sc₁ k₁ (join_asked x only_none k₁ u) (seq_fine x only_none k₁ u)
+      none_asked = in_turn ws₁ ns bs sc₁ k₁ (join_asked only_none k₁ u) (seq_fine only_none k₁ u)
 
       pub join_none : (ws₂ ns₂ bs₂ sc₂ : List ℕ) (r : Answer) → Comes ls z ws₁ ns bs sc₁ k₁ e seq_from ws₂ ns₂ bs₂ sc₂
           r → Comes ls z ws ns bs sc k e goal ws₂ ns₂ bs₂ sc₂ r
       join_none ws₂ ns₂ bs₂ sc₂ r d =
-          from_start x only_none k₁ u _ ws₂ ns₂ bs₂ sc₂ r d
-          ((λ j. seq_same j (same_path₁ x only_none k₁ u j) (same_world₁ x only_none k₁ u j)) ∙
-          (sym (ap (λ y. on_made (agreement_of ws₁ ns sc₁ e run.count y) after (seq path) w) q) ∙ by_agreement))
+          from_start only_none k₁ u _ ws₂ ns₂ bs₂ sc₂ r d
+          ((λ j. seq_same j (same_path₁ only_none k₁ u j) (same_world₁ only_none k₁ u j)) ∙
+          (sym (ap (λ y. on_made (agreement_of ws₁ ns sc₁ e run.count x y) after (seq path) w) q) ∙ by_agreement))
 
-    pub join_full : (x : Lengths) → m ≡ NoSortRoom x → Comes ls z ws ns bs sc k e goal ws₁ ns bs sc₁ (Full 15 x)
+    pub join_full : (n : NoRoom) → m ≡ Err n → Comes ls z ws ns bs sc k e goal ws₁ ns bs sc₁ (Full 15 x)
     unfolding MadeSorts
-    join_full x q =
+    join_full n q =
         record {
-          says = sym (ap (λ y. on_made (agreement_of ws₁ ns sc₁ e run.count y) after (seq path) w) q) ∙ by_agreement;
+          says = sym (ap (λ y. on_made (agreement_of ws₁ ns sc₁ e run.count x y) after (seq path) w) q) ∙ by_agreement;
           grown = (subst (λ y. MadeSorts (Agree W (binds_of bs k.lengths.variables) ps) (Unit {0}) W
-              (agreement_of ws₁ ns sc₁ e run.count y)) q makes).0.grows;
+              (agreement_of ws₁ ns sc₁ e run.count x y)) q makes).0.grows;
           binds = refl;
           path = same_words;
         }
 
-    module _ (s : SortId) (x : Lengths) (q : m ≡ At s x) (k₁ : State) (u : k₁ ≡ with_lengths k x) where
+    module _ (s : SortId) (q : m ≡ Ok (Some s)) (k₁ : State) (u : k₁ ≡ with_lengths k x) where
       made_so : SortsOnly W (lent ws₁ ns x) × Agree W (binds_of bs k.lengths.variables) ps (lent ws₁ ns x)
           (record { sort = s.0; components = part (measure_at + e.measure) run.count sc₁ })
       unfolding MadeSorts
-      made_so = subst (λ y. MadeSorts (Agree W (binds_of bs k.lengths.variables) ps) (Unit {0}) W (agreement_of ws₁ ns sc₁ e run.count y)) q makes
+      made_so = subst (λ y. MadeSorts (Agree W (binds_of bs k.lengths.variables) ps) (Unit {0}) W (agreement_of ws₁ ns sc₁ e run.count x y)) q makes
 
       abbrev only : SortsOnly W (lent ws₁ ns x)
       only = made_so.0
 
       pub lub_asked : Searching ws₁ ns bs sc₁ ls z k₁ e run.count [] (Solve i)
-      lub_asked = join_asked x only k₁ u
+      lub_asked = join_asked only k₁ u
 
       pub lub_placed : PairsPlaced k₁.lengths (One t (record { 0 = s.0 }))
       lub_placed = (
-        (seq_fine x only k₁ u).target,
+        (seq_fine only k₁ u).target,
         sort_placed k₁.lengths lub_asked.ready.nodes.sorts.sorts s.0
             (subst (λ (y : State). s.0 < y.lengths.sorts) (sym u) made_so.1.agreed.number),
       )
@@ -240,14 +242,14 @@ module _ (ls : List ℕ) (z : Sizes) (ws ns bs sc : List ℕ) (k : State) (e : B
         unfolding trying unify_pairs unifying path_after next_of
         to_or =
             (λ j. else_try
-            (unifying (same_path₁ x only k₁ u j).binds t.0 s.0 (λ C. solve_from ls z i
-            (with_components (same_path₁ x only k₁ u j) (part (measure_at + e.measure) run.count sc₁) C))
-            (same_world₁ x only k₁ u j))
-            (seq_same j (same_path₁ x only k₁ u j)))
-            ∙ (sym (ap (λ y. on_made (agreement_of ws₁ ns sc₁ e run.count y) after (seq path) w) q) ∙ by_agreement)
+            (unifying (same_path₁ only k₁ u j).binds t.0 s.0 (λ C. solve_from ls z i
+            (with_components (same_path₁ only k₁ u j) (part (measure_at + e.measure) run.count sc₁) C))
+            (same_world₁ only k₁ u j))
+            (seq_same j (same_path₁ only k₁ u j)))
+            ∙ (sym (ap (λ y. on_made (agreement_of ws₁ ns sc₁ e run.count x y) after (seq path) w) q) ∙ by_agreement)
 
         pub join_stop : ((y : State) → r ≡ Missed y → ⊥) → Comes ls z ws ns bs sc k e goal ws₂ ns₂ bs₂ sc₂ r
-        join_stop n = from_start x only k₁ u _ ws₂ ns₂ bs₂ sc₂ r (or_stops ls z ws₁ ns bs sc₁ k₁ e
+        join_stop n = from_start only k₁ u _ ws₂ ns₂ bs₂ sc₂ r (or_stops ls z ws₁ ns bs sc₁ k₁ e
             lub_asked.ready.nodes first ws₂ ns₂ bs₂ sc₂ r d (seq_from path₁) n) to_or
 
         module _ (k₂ : State) (v : r ≡ Missed k₂) where
@@ -261,15 +263,15 @@ module _ (ls : List ℕ) (z : Sizes) (ws ns bs sc : List ℕ) (k : State) (e : B
                 ordered = F.ordered;
                 inside = F.inside;
                 target = placed_grown (lent ws₁ ns k₁.lengths) lub_asked.ready.nodes
-                    (lent ws₂ ns₂ k₂.lengths) grown₂ t.0 (seq_fine x only k₁ u).target;
+                    (lent ws₂ ns₂ k₂.lengths) grown₂ t.0 (seq_fine only k₁ u).target;
                 placed = still_placed (lent ws₁ ns k₁.lengths) lub_asked.ready.nodes
-                    (lent ws₂ ns₂ k₂.lengths) grown₂ _ (seq_fine x only k₁ u).placed;
+                    (lent ws₂ ns₂ k₂.lengths) grown₂ _ (seq_fine only k₁ u).placed;
               })
 
           pub join_next : (ws₃ ns₃ bs₃ sc₃ : List ℕ) (a : Answer) → Comes ls z ws₂ ns₂ bs₂ sc₂ k₂ e seq_from ws₃ ns₃
               bs₃ sc₃ a → Comes ls z ws ns bs sc k e goal ws₃ ns₃ bs₃ sc₃ a
           join_next ws₃ ns₃ bs₃ sc₃ a y =
-              from_start x only k₁ u _ ws₃ ns₃ bs₃ sc₃ a (or_comes ls z ws₁ ns bs sc₁ k₁ e lub_asked.ready.nodes
+              from_start only k₁ u _ ws₃ ns₃ bs₃ sc₃ a (or_comes ls z ws₁ ns bs sc₁ k₁ e lub_asked.ready.nodes
               first ws₂ ns₂ bs₂ sc₂ r d seq_from k₂ v ws₃ ns₃ bs₃ sc₃ a y) to_or
 
 -- One source after another.

@@ -1,6 +1,6 @@
 -- The overloads of a disjunction, as its code goes: a loop, in which what is left equals the whole. By one branch after another. Assumes nothing.
 use mathlib.Core.Path.{◌≡◌, refl, sym, ap, ap₂, ◌∙◌, subst}
-use mathlib.Core.Bool.{Bool, false}
+use mathlib.Core.Bool.{Bool, false, ◌||◌}
 use mathlib.Core.List.{List, [], ◌∷◌}
 use Prim.Native.Nat.{ℕ, ◌+◌, ◌-◌, ◌<◌, ◌≤◌}
 use native.Mathlib.Omega.{arith}
@@ -27,14 +27,11 @@ use Rattle.resolved_sort.specs.declared.Run.{Run}
 use Rattle.inference.specs.declared.ExprId.{ExprId}
 use Rattle.search_state.specs.declared.Pairs.TheVariants.{One}
 use Rattle.search_state.specs.declared.Step.TheVariants.{Choice}
-use Rattle.search_state.specs.declared.Went.{Went}
-use Rattle.search_state.specs.declared.Went.TheVariants.{On, Stop}
 use Rattle.search_state.specs.Inner.Memory.{overloads_at, problem_in, chosen_exprs, path_of, world_of, next_of}
-use Rattle.search_state.specs.Inner.Leaves.{unify_pairs, PairsPlaced, path_after, after_of}
+use Rattle.search_state.specs.Inner.Leaves.{unify_pairs, PairsPlaced, path_after, says_of}
 use Rattle.search_state.specs.Inner.Searching.{Searching, SamePath, Done, Comes, trying}
 use Rattle.search_state.proofs.Parts.{same_path_refl, same_path_trans}
 use Rattle.search_state.proofs.After.{searching_grown, done_as, done_after, same_path, and_stops, and_goes_on, grown_on}
-use Rattle.search_steps.specs.Inner.Steps.{says_of}
 use Rattle.solver.specs.Inner.Asked.{OverloadsFine}
 use Rattle.solver.proofs.Readings.{says_so}
 use Rattle.inference.proofs.Members.{run_one_left}
@@ -122,7 +119,7 @@ module _ (ls : List ℕ) (z : Sizes) (ws₀ ns₀ bs₀ sc₀ : List ℕ) (k₀ 
           (sym (next_expr ls z ws ns bs sc k e x.0 next G.searching)) G.searching
 
       module _ (ws₂ ns₂ bs₂ sc₂ : List ℕ) (r : Answer) (d : Comes ls z ws ns bs sc k e (trying ls z sc e (One p o)
-          (Choice i) next) ws₂ ns₂ bs₂ sc₂ r) (g : Went) (y : g ≡ after_of r b) where
+          (Choice i) next) ws₂ ns₂ bs₂ sc₂ r) where
         abbrev path₁ : Path
         path₁ = path_of ls z (binds_of bs k.lengths.variables) sc e
 
@@ -145,14 +142,14 @@ module _ (ls : List ℕ) (z : Sizes) (ws₀ ns₀ bs₀ sc₀ : List ℕ) (k₀ 
             ∙ sym (ap (λ os. every_overload (Unit {0}) nothing_met P x.0 p.0 os i b (next_of ls z next) path w₁)
             (run_one_left (overload_at (drop overloads_at ls)) run.start run.count i l)))
 
-        pub overloads_stop : (c : ℕ) (n : Lengths) → g ≡ Stop c n → Comes ls z ws₀ ns₀ bs₀ sc₀ k₀ e goal ws₂ ns₂ bs₂ sc₂ (Full c n)
+        pub overloads_stop : (c : ℕ) (n : Lengths) → r ≡ Full c n → Comes ls z ws₀ ns₀ bs₀ sc₀ k₀ e goal ws₂ ns₂ bs₂ sc₂ r
         overloads_stop c n h =
-            from_start (and_also first b (λ b. from (i + 1) b path)) to_and ws₂ ns₂ bs₂ sc₂ (Full c n)
-            (and_stops ls z ws ns bs sc k e G.searching.ready.nodes first ws₂ ns₂ bs₂ sc₂ r d b (λ b. from (i + 1) b path) g y c n h)
+            from_start (and_also first b (λ b. from (i + 1) b path)) to_and ws₂ ns₂ bs₂ sc₂ r
+            (and_stops ls z ws ns bs sc k e G.searching.ready.nodes first ws₂ ns₂ bs₂ sc₂ r d b (λ b. from (i + 1) b path) c n h)
 
-        pub overloads_on : (k₂ : State) (b₂ : Bool) → g ≡ On k₂ b₂ → GoingOn ws₂ ns₂ bs₂ sc₂ k₂ (i + 1) b₂
-        overloads_on k₂ b₂ h =
-            let only₂ = grown_on ls z ws ns bs sc k e G.searching.ready.nodes first ws₂ ns₂ bs₂ sc₂ r d b g y k₂ b₂ h in
+        pub overloads_on : (y : Bool) (k₂ : State) → r ≡ says_of y k₂ → GoingOn ws₂ ns₂ bs₂ sc₂ k₂ (i + 1) (b || y)
+        overloads_on y k₂ h =
+            let only₂ = grown_on ls z ws ns bs sc k e G.searching.ready.nodes first ws₂ ns₂ bs₂ sc₂ r d y k₂ h in
             let up : (q : ℕ) → Placed k.lengths q → Placed k₂.lengths q =
             placed_grown (lent ws ns k.lengths) G.searching.ready.nodes (lent ws₂ ns₂ k₂.lengths) only₂.grows in
             record {
@@ -165,7 +162,7 @@ module _ (ls : List ℕ) (z : Sizes) (ws₀ ns₀ bs₀ sc₀ : List ℕ) (k₀ 
               path = same_path_trans e sc₀ sc sc₂ G.path d.path;
               left =
                   and_goes_on ls z ws ns bs sc k e G.searching.ready.nodes first ws₂ ns₂ bs₂ sc₂ r d b
-                  (λ b. from (i + 1) b path) g y k₂ b₂ h ∙ (to_and ∙ G.left);
+                  (λ b. from (i + 1) b path) y k₂ h ∙ (to_and ∙ G.left);
             }
 
 -- The expression of the disjunction is that of the next choice.

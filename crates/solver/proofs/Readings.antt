@@ -1,7 +1,7 @@
 -- The readings of a comprehension, as its code goes: a container interned, two pairs of places made equal, and on to the next reading. By one branch after
 -- another, and by what interning leaves of the lists. Assumes nothing.
 use mathlib.Core.Path.{◌≡◌, refl, sym, ap, ap₂, ◌∙◌, subst}
-use mathlib.Core.Bool.{Bool, true, false}
+use mathlib.Core.Bool.{Bool, true, false, ◌||◌}
 use mathlib.Core.List.{List, []}
 use Prim.Native.Nat.{ℕ, zero, suc, ◌+◌, ◌<◌, ◌≤◌}
 use native.Mathlib.Omega.{arith}
@@ -24,19 +24,17 @@ use Rattle.search_state.specs.declared.Answer.{Answer}
 use Rattle.search_state.specs.declared.Answer.TheVariants.{Full}
 use Rattle.search_state.specs.declared.Next.{Next}
 use Rattle.resolved_sort.specs.declared.SortId.{SortId}
-use Rattle.search_state.specs.declared.Made.{Made}
-use Rattle.search_state.specs.declared.Made.TheVariants.{At, Nothing as NoSort, Full as NoSortRoom}
+use Rattle.resolved_sort.specs.declared.NoRoom.{NoRoom}
+use Rattle.std.specs.Prelude.{Result, Ok, Err}
 use Rattle.search_state.specs.declared.Pairs.TheVariants.{Two}
 use Rattle.search_state.specs.declared.Step.TheVariants.{Nothing}
-use Rattle.search_state.specs.declared.Went.{Went}
-use Rattle.search_state.specs.declared.Went.TheVariants.{On, Stop}
 use Rattle.search_state.specs.Inner.Memory.{problem_in, path_of, world_of, next_of}
-use Rattle.search_state.specs.Inner.Leaves.{PairsPlaced, path_after, made_of, after_of, with_lengths}
+use Rattle.search_state.specs.Inner.Leaves.{PairsPlaced, path_after, says_of, with_lengths}
 use Rattle.search_state.specs.Inner.Searching.{Searching, Done, Comes, trying}
 use Rattle.search_state.proofs.Parts.{same_path_refl}
 use Rattle.search_state.proofs.After.{searching_grown, misses, finds, done_as, done_after, and_stops, and_comes, grown_on}
-use Rattle.search_state.proofs.Ways.{two_pairs, container_is_sort, no_room_for_container_is_15, container_always_listed}
-use Rattle.search_steps.specs.Inner.Steps.{says_of, InternsContainer}
+use Rattle.search_state.proofs.Ways.{two_pairs, container_is_sort, no_room_for_container_is_15}
+use Rattle.search_steps.specs.Inner.Steps.{interned_of, InternsContainer}
 use Rattle.solver.specs.Inner.Asked.{reading_body, reading_op, reading_at, readings_from}
 use Rattle.solver.proofs.Ways.{sort_placed, fixed_placed}
 use Rattle.inference.proofs.Members.{rows_one_left, rows_none_left}
@@ -78,8 +76,9 @@ module _ (ls : List ℕ) (z : Sizes) (ws ns bs sc : List ℕ) (k : State) (e : B
       done_as ls z ws ns bs sc k e S.ready.nodes _ _ ws ns bs sc r (sym (ap (λ rs. rest rs b path w) (rows_none_left reading_at 3 i l)))
       (says_so ls z ws ns bs sc k e S.ready.nodes b r q)
 
-  module _ (l : i < 3) (ws₁ : List ℕ) (m : Made) (o : InternsContainer (reading_op i) element.0 ws k.lengths ws₁ m) where
-    interned : made_of ws₁ ns m ≡ intern_container (reading_op i) element.0 W
+  module _ (l : i < 3) (ws₁ : List ℕ) (x : Lengths) (m : Result SortId NoRoom)
+      (o : InternsContainer (reading_op i) element.0 ws k.lengths ws₁ x m) where
+    interned : interned_of ws₁ ns x m ≡ intern_container (reading_op i) element.0 W
     unfolding InternsContainer
     interned = o ns
 
@@ -89,25 +88,22 @@ module _ (ls : List ℕ) (z : Sizes) (ws ns bs sc : List ℕ) (k : State) (e : B
         and_also (unifying path.binds body.0 (reading_body i) (λ C. unifying C node.0 s (λ D. next_of ls z next
         (with_binds path D))) v) b (λ b. rest (readings_from (i + 1)) b path)
 
-    by_made : on_made (made_of ws₁ ns m) reads missed w ≡ goal path w
+    by_made : on_made (interned_of ws₁ ns x m) reads missed w ≡ goal path w
     unfolding every_reading
-    by_made = ap (λ x. on_made x reads missed w) interned ∙ sym (ap (λ rs. rest rs b path w) (rows_one_left reading_at 3 i l))
+    by_made = ap (λ y. on_made y reads missed w) interned ∙ sym (ap (λ rs. rest rs b path w) (rows_one_left reading_at 3 i l))
 
-    pub readings_full : (x : Lengths) → m ≡ NoSortRoom x → Comes ls z ws ns bs sc k e goal ws₁ ns bs sc (Full 15 x)
-    readings_full x q =
+    pub readings_full : (n : NoRoom) → m ≡ Err n → Comes ls z ws ns bs sc k e goal ws₁ ns bs sc (Full 15 x)
+    readings_full n q =
         record {
-          says = sym (ap (λ y. on_made (made_of ws₁ ns y) reads missed w) q) ∙ by_made;
-          grown = (no_room_for_container_is_15 W S.ready.nodes (reading_op i) element.0 he 15 (lent ws₁ ns x) (sym interned ∙ ap (made_of ws₁ ns) q)).1;
+          says = sym (ap (λ y. on_made (interned_of ws₁ ns x y) reads missed w) q) ∙ by_made;
+          grown = (no_room_for_container_is_15 W S.ready.nodes (reading_op i) element.0 he 15 (lent ws₁ ns x) (sym interned ∙ ap (interned_of ws₁ ns x) q)).1;
           binds = refl;
           path = same_path_refl e sc;
         }
 
-    pub readings_none : {A : Type 0} (x : Lengths) → m ≡ NoSort x → A
-    readings_none x q = container_always_listed W S.ready.nodes (reading_op i) element.0 he (lent ws₁ ns x) (sym interned ∙ ap (made_of ws₁ ns) q)
-
-    module _ (s : SortId) (x : Lengths) (q : m ≡ At s x) (k₁ : State) (u : k₁ ≡ with_lengths k x) where
+    module _ (s : SortId) (q : m ≡ Ok s) (k₁ : State) (u : k₁ ≡ with_lengths k x) where
       is_sort : SortsOnly W (lent ws₁ ns x) × (s.0 < x.sorts)
-      is_sort = container_is_sort W S.ready.nodes (reading_op i) element.0 he s.0 (lent ws₁ ns x) (sym interned ∙ ap (made_of ws₁ ns) q)
+      is_sort = container_is_sort W S.ready.nodes (reading_op i) element.0 he s.0 (lent ws₁ ns x) (sym interned ∙ ap (interned_of ws₁ ns x) q)
 
       grown : SortsOnly W (lent ws₁ ns k₁.lengths)
       grown = subst (λ (y : State). SortsOnly W (lent ws₁ ns y.lengths)) (sym u) is_sort.0
@@ -153,7 +149,7 @@ module _ (ls : List ℕ) (z : Sizes) (ws ns bs sc : List ℕ) (k : State) (e : B
             ∙ (ap₂ (λ p y. and_also (unifying p.binds body.0 (reading_body i) (λ C. unifying C node.0 s.0
             (λ D. next_of ls z next (with_binds p D))) y) b (λ b. rest (readings_from (i + 1)) b p)) same_path_here
             (ap (world_of ls z ws₁ ns sc) u)
-            ∙ (sym (ap (λ y. on_made (made_of ws₁ ns y) reads missed w) q) ∙ by_made)))
+            ∙ (sym (ap (λ y. on_made (interned_of ws₁ ns x y) reads missed w) q) ∙ by_made)))
 
         from_start : (ws₃ ns₃ bs₃ sc₃ : List ℕ) (a : Answer)
             → Done ls z ws₁ ns bs sc k₁ e (and_also first b (λ b. rest (readings_from (i + 1)) b path₁)) ws₃ ns₃ bs₃ sc₃
@@ -163,30 +159,29 @@ module _ (ls : List ℕ) (z : Sizes) (ws ns bs sc : List ℕ) (k : State) (e : B
             done_as ls z ws ns bs sc k e S.ready.nodes _ _ ws₃ ns₃ bs₃ sc₃ a to_and
             (done_after ls z ws ns bs sc k e S.ready.nodes ws₁ ns bs sc k₁ grown refl (same_path_refl e sc) _ ws₃ ns₃ bs₃ sc₃ a y)
 
-        module _ (g : Went) (y : g ≡ after_of r b) where
-          pub readings_stop : (c : ℕ) (n : Lengths) → g ≡ Stop c n → Comes ls z ws ns bs sc k e goal ws₂ ns₂ bs₂ sc₂ (Full c n)
-          readings_stop c n h =
-              from_start ws₂ ns₂ bs₂ sc₂ (Full c n)
-              (and_stops ls z ws₁ ns bs sc k₁ e reading_asked.ready.nodes first ws₂ ns₂ bs₂ sc₂ r d b (λ b. rest (readings_from (i + 1)) b path₁) g y c n h)
+        pub readings_stop : (c : ℕ) (n : Lengths) → r ≡ Full c n → Comes ls z ws ns bs sc k e goal ws₂ ns₂ bs₂ sc₂ r
+        readings_stop c n h =
+            from_start ws₂ ns₂ bs₂ sc₂ r
+            (and_stops ls z ws₁ ns bs sc k₁ e reading_asked.ready.nodes first ws₂ ns₂ bs₂ sc₂ r d b (λ b. rest (readings_from (i + 1)) b path₁) c n h)
 
-          module _ (k₂ : State) (b₂ : Bool) (h : g ≡ On k₂ b₂) where
-            grown₂ : SortsOnly (lent ws₁ ns k₁.lengths) (lent ws₂ ns₂ k₂.lengths)
-            grown₂ = grown_on ls z ws₁ ns bs sc k₁ e reading_asked.ready.nodes first ws₂ ns₂ bs₂ sc₂ r d b g y k₂ b₂ h
+        module _ (y : Bool) (k₂ : State) (h : r ≡ says_of y k₂) where
+          grown₂ : SortsOnly (lent ws₁ ns k₁.lengths) (lent ws₂ ns₂ k₂.lengths)
+          grown₂ = grown_on ls z ws₁ ns bs sc k₁ e reading_asked.ready.nodes first ws₂ ns₂ bs₂ sc₂ r d y k₂ h
 
-            pub readings_asked : Searching ws₂ ns₂ bs₂ sc₂ ls z k₂ e 0 [] next
-            readings_asked = searching_grown ls z ws₁ ns bs sc k₁ e 0 [] next reading_asked ws₂ ns₂ bs₂ sc₂ k₂ grown₂.grows d.binds d.path.long
+          pub readings_asked : Searching ws₂ ns₂ bs₂ sc₂ ls z k₂ e 0 [] next
+          readings_asked = searching_grown ls z ws₁ ns bs sc k₁ e 0 [] next reading_asked ws₂ ns₂ bs₂ sc₂ k₂ grown₂.grows d.binds d.path.long
 
-            pub reading_places : Placed k₂.lengths body.0 × Placed k₂.lengths node.0 × (element.0 < k₂.lengths.sorts)
-            reading_places =
-                let up : (p : ℕ) → Placed k.lengths p → Placed k₂.lengths p =
-                λ p h. placed_grown (lent ws₁ ns k₁.lengths) reading_asked.ready.nodes
-                (lent ws₂ ns₂ k₂.lengths) grown₂.grows p (placed_grown W S.ready.nodes
-                (lent ws₁ ns k₁.lengths) grown.grows p h) in
-                (up body.0 hb, up node.0 hn, omega (arith, he, grown.grows.sorts, grown₂.grows.sorts))
+          pub reading_places : Placed k₂.lengths body.0 × Placed k₂.lengths node.0 × (element.0 < k₂.lengths.sorts)
+          reading_places =
+              let up : (p : ℕ) → Placed k.lengths p → Placed k₂.lengths p =
+              λ p h. placed_grown (lent ws₁ ns k₁.lengths) reading_asked.ready.nodes
+              (lent ws₂ ns₂ k₂.lengths) grown₂.grows p (placed_grown W S.ready.nodes
+              (lent ws₁ ns k₁.lengths) grown.grows p h) in
+              (up body.0 hb, up node.0 hn, omega (arith, he, grown.grows.sorts, grown₂.grows.sorts))
 
-            pub readings_on : (ws₃ ns₃ bs₃ sc₃ : List ℕ) (a : Answer) → Comes ls z ws₂ ns₂ bs₂ sc₂ k₂ e (rest (readings_from (i + 1)) b₂) ws₃ ns₃ bs₃ sc₃ a
-                → Comes ls z ws ns bs sc k e goal ws₃ ns₃ bs₃ sc₃ a
-            readings_on ws₃ ns₃ bs₃ sc₃ a x =
-                from_start ws₃ ns₃ bs₃ sc₃ a
-                (and_comes ls z ws₁ ns bs sc k₁ e reading_asked.ready.nodes first ws₂ ns₂ bs₂ sc₂ r d b
-                (rest (readings_from (i + 1))) g y k₂ b₂ h ws₃ ns₃ bs₃ sc₃ a x)
+          pub readings_on : (ws₃ ns₃ bs₃ sc₃ : List ℕ) (a : Answer) → Comes ls z ws₂ ns₂ bs₂ sc₂ k₂ e (rest (readings_from (i + 1)) (b || y)) ws₃ ns₃ bs₃ sc₃ a
+              → Comes ls z ws ns bs sc k e goal ws₃ ns₃ bs₃ sc₃ a
+          readings_on ws₃ ns₃ bs₃ sc₃ a t =
+              from_start ws₃ ns₃ bs₃ sc₃ a
+              (and_comes ls z ws₁ ns bs sc k₁ e reading_asked.ready.nodes first ws₂ ns₂ bs₂ sc₂ r d b
+              (rest (readings_from (i + 1))) y k₂ h ws₃ ns₃ bs₃ sc₃ a t)

@@ -21,15 +21,15 @@ use Rattle.search_state.specs.declared.Sizes.{Sizes}
 use Rattle.search_state.specs.declared.State.{State}
 use Rattle.search_state.specs.declared.Branch.{Branch}
 use Rattle.search_state.specs.declared.Answer.{Answer}
-use Rattle.search_state.specs.declared.Answer.TheVariants.{Found, Missed, Full}
+use Rattle.search_state.specs.declared.Answer.TheVariants.{Found, Missed, Full as Ended}
+use Rattle.unification.specs.declared.Full.{Full}
+use Rattle.std.specs.Prelude.{Option, Some, None, Result, Ok, Err}
 use Rattle.search_state.specs.declared.Next.{Next}
 use Rattle.search_state.specs.declared.Pairs.TheVariants.{One}
 use Rattle.search_state.specs.declared.Step.TheVariants.{Component}
 use Rattle.search_state.specs.declared.Tries.{Tries}
-use Rattle.search_state.specs.declared.Widenings.{Widenings}
-use Rattle.search_state.specs.declared.Widenings.TheVariants.{These, NoList, Full as NoRoom}
 use Rattle.search_state.specs.Inner.Memory.{problem_in, path_of, world_of, out_of, next_of}
-use Rattle.search_state.specs.Inner.Leaves.{unify_pairs, path_after, tries_from, widenings, widened, FewTries, FindsWidenings, with_lengths, given_back_to}
+use Rattle.search_state.specs.Inner.Leaves.{unify_pairs, path_after, tries_from, widenings, code_of, widened, FewTries, FindsWidenings, with_lengths, given_back_to}
 use Rattle.search_state.specs.Inner.Searching.{Searching, SearchGrown, Comes, trying}
 use Rattle.search_state.proofs.Parts.{same_path_refl}
 use Rattle.search_state.proofs.After.{searching_grown, done_as, or_stops, or_comes, grown_missed}
@@ -40,8 +40,8 @@ use Rattle.solver.proofs.Ways.{after_missed}
 -- From where equality missed.
 module _ (ls : List ℕ) (z : Sizes) (ws ns bs sc : List ℕ) (k : State) (e : Branch) (l r : InferSortId) (next : Next)
     (S : Searching ws ns bs sc ls z k e 1 [] next)
-    (x : Placed k.lengths l.0) (y : Placed k.lengths r.0) (ws₁ ns₁ : List ℕ) (q : Widenings)
-    (O : FindsWidenings ws₁ ns₁ q (widenings (binds_of bs k.lengths.variables) l.0 r.0 (lent ws ns k.lengths))) where
+    (x : Placed k.lengths l.0) (y : Placed k.lengths r.0) (ws₁ ns₁ : List ℕ) (m : Lengths) (q : Result (Option Tries) Full)
+    (O : FindsWidenings ws₁ ns₁ m q (widenings (binds_of bs k.lengths.variables) l.0 r.0 (lent ws ns k.lengths))) where
   abbrev P : Problem
   P = problem_in ls z
 
@@ -57,20 +57,20 @@ module _ (ls : List ℕ) (z : Sizes) (ws ns bs sc : List ℕ) (k : State) (e : B
   abbrev goal : Going (Unit {0}) nothing_met P
   goal = wider (Unit {0}) nothing_met P l.0 r.0 (next_of ls z next)
 
-  by_tries : on_made (widened ws₁ ns₁ q) (tried (Unit {0}) nothing_met P (next_of ls z next) path w l.0 r.0) missed w ≡ goal path w
+  by_tries : on_made (widened ws₁ ns₁ m q) (tried (Unit {0}) nothing_met P (next_of ls z next) path w l.0 r.0) missed w ≡ goal path w
   by_tries =
       ap (λ o. on_made o (tried (Unit {0}) nothing_met P (next_of ls z next) path w l.0 r.0) missed w) O.says
       ∙ sym (wider_by_widenings (Unit {0}) nothing_met P (next_of ls z next) path w l.0 r.0 S.ready.nodes S.ready.binds)
 
-  module _ (t : Tries) (m : Lengths) (i : q ≡ These t m) where
+  module _ (t : Tries) (i : q ≡ Ok (Some t)) where
     there : widenings (binds_of bs k.lengths.variables) l.0 r.0 W ≡ made (tries_from t 0) (lent ws₁ ns₁ m)
-    there = sym (sym (ap (widened ws₁ ns₁) i) ∙ O.says)
+    there = sym (sym (ap (widened ws₁ ns₁ m) i) ∙ O.says)
 
     grown : Grows W (lent ws₁ ns₁ m)
     grown = (tries_are_placed W S.ready.nodes S.suits.six (binds_of bs k.lengths.variables)
         S.ready.binds l.0 r.0 x y (tries_from t 0) (lent ws₁ ns₁ m) there).0
 
-    few : FewTries (These t m)
+    few : FewTries (Ok (Some t))
     few = subst FewTries i O.few
 
     pub tries_fine_first : TriesFine (lent ws₁ ns₁ m) t 0
@@ -111,7 +111,7 @@ module _ (ls : List ℕ) (z : Sizes) (ws ns bs sc : List ℕ) (k : State) (e : B
               nodes = refl;
               arguments = refl;
             }
-        back (Full c n) g = grows_trans W S.ready.nodes (lent ws₁ ns₁ m) (lent ws₂ ns₂ n) grown g
+        back (Ended c n) g = grows_trans W S.ready.nodes (lent ws₁ ns₁ m) (lent ws₂ ns₂ n) grown g
 
         same_path_there : path_of ls z (binds_of bs m.variables) sc e ≡ path
         same_path_there = ap (λ v. path_of ls z (binds_of bs v) sc e) grown.variables
@@ -124,18 +124,18 @@ module _ (ls : List ℕ) (z : Sizes) (ws ns bs sc : List ℕ) (k : State) (e : B
                   ∙ (given_back_in_answer ls z ws₂ ns₂ sc₂ a ws ns k.lengths
                   ∙ (ap (nodes_returned W) (d₁.says ∙ ap (λ p. first_found (Unit {0}) nothing_met P (tries_from t 0)
                   (next_of ls z next) p (world_of ls z ws₁ ns₁ sc (with_lengths k m))) same_path_there)
-                  ∙ (ap (λ j. on_made (widened ws₁ ns₁ j) (tried (Unit {0}) nothing_met P (next_of ls z next) path w
+                  ∙ (ap (λ j. on_made (widened ws₁ ns₁ m j) (tried (Unit {0}) nothing_met P (next_of ls z next) path w
                   l.0 r.0) missed w) (sym i) ∙ by_tries)));
               grown = subst (SearchGrown W ws₂ ns₂) (sym v) (back a d₁.grown);
               binds = d₁.binds;
               path = d₁.path;
             }
 
-  pub widen_none : (m : Lengths) → q ≡ NoList m → (k₁ : State) → k₁ ≡ with_lengths k m → Comes ls z ws ns bs sc k e goal ws₁ ns₁ bs sc (Missed k₁)
-  widen_none m i k₁ u =
+  pub widen_none : q ≡ Ok None → (k₁ : State) → k₁ ≡ with_lengths k m → Comes ls z ws ns bs sc k e goal ws₁ ns₁ bs sc (Missed k₁)
+  widen_none i k₁ u =
       subst (λ (s : State). Comes ls z ws ns bs sc k e goal ws₁ ns₁ bs sc (Missed s)) (sym u)
       (record {
-        says = ap (λ j. on_made (widened ws₁ ns₁ j) (tried (Unit {0}) nothing_met P (next_of ls z next) path w l.0 r.0) missed w) (sym i) ∙ by_tries;
+        says = ap (λ j. on_made (widened ws₁ ns₁ m j) (tried (Unit {0}) nothing_met P (next_of ls z next) path w l.0 r.0) missed w) (sym i) ∙ by_tries;
         grown = subst (SortsOnly W) (sym same) (sorts_only_refl W S.ready.nodes);
         binds = refl;
         path = same_path_refl e sc;
@@ -144,16 +144,16 @@ module _ (ls : List ℕ) (z : Sizes) (ws ns bs sc : List ℕ) (k : State) (e : B
       same : lent ws₁ ns₁ m ≡ W
       same =
           no_tries_makes_nothing W S.ready.nodes S.suits.six (binds_of bs k.lengths.variables) S.ready.binds l.0 r.0 x y (lent ws₁ ns₁ m)
-          (sym (sym (ap (widened ws₁ ns₁) i) ∙ O.says))
+          (sym (sym (ap (widened ws₁ ns₁ m) i) ∙ O.says))
 
-  pub widen_full : (c : ℕ) (m : Lengths) → q ≡ NoRoom c m → Comes ls z ws ns bs sc k e goal ws₁ ns₁ bs sc (Full c m)
-  widen_full c m i =
+  pub widen_full : (f : Full) → q ≡ Err f → Comes ls z ws ns bs sc k e goal ws₁ ns₁ bs sc (Ended (code_of f) m)
+  widen_full f i =
       record {
-        says = ap (λ j. on_made (widened ws₁ ns₁ j) (tried (Unit {0}) nothing_met P (next_of ls z next) path w l.0 r.0) missed w) (sym i) ∙ by_tries;
+        says = ap (λ j. on_made (widened ws₁ ns₁ m j) (tried (Unit {0}) nothing_met P (next_of ls z next) path w l.0 r.0) missed w) (sym i) ∙ by_tries;
         grown =
             no_room_for_tries_grows W S.ready.nodes S.suits.six (binds_of bs k.lengths.variables)
-            S.ready.binds l.0 r.0 x y c (lent ws₁ ns₁ m)
-            (sym (sym (ap (widened ws₁ ns₁) i) ∙ O.says));
+            S.ready.binds l.0 r.0 x y (code_of f) (lent ws₁ ns₁ m)
+            (sym (sym (ap (widened ws₁ ns₁ m) i) ∙ O.says));
         binds = refl;
         path = same_path_refl e sc;
       }

@@ -1,21 +1,44 @@
 -- Each return by a law of Agreeing. Assumes nothing.
+use Rattle.std.proofs.Common.{ap, ◌∙◌}
+use Rattle.std.specs.Prelude.{Ok}
+use Rattle.search_state.specs.Inner.Solving.{Stays}
+use Rattle.search_state.proofs.Solving.{no_room}
 use Rattle.search_join.proofs.Agreeing as law
 use Rattle.search_join.proofs.agreed.Goals as goal
 
+pub returns-in_err-resolve_sources : goal.returns-in_err-resolve_sources
+returns-in_err-resolve_sources c =
+    let k = c.resolve_sources.ensures.1 in (
+      law.of_scratch _ _ (ap (λ (x : Stays). x.scratch) k) _ _ _ _ _ _ _ (rw (no_room c.from_residual.result _ c.from_residual.ensures (record {}))
+          (law.sources_end _ _ _ _ _ _ _ _ c.requires _ _ _ c.resolve_sources.result c.resolve_sources.ensures.0 _ c.in_err-resolve_sources.was)),
+      ap (λ (x : Stays). x.kept) k,
+      ap (λ (x : Stays). x.nodes) k,
+    )
+
+pub returns-then-not-branch : goal.returns-then-not-branch
+returns-then-not-branch c =
+    let k = c.resolve_sources.ensures.1 in (
+      law.of_scratch _ _ (ap (λ (x : Stays). x.scratch) k) _ _ _ _ _ _ _
+          (law.sources_stop _ _ _ _ _ _ _ _ c.requires _ _ _ c.resolve_sources.result c.resolve_sources.ensures.0
+          (c.in_ok-resolve_sources.was ∙ ap Ok c.if-not-branch.true)),
+      ap (λ (x : Stays). x.kept) k,
+      ap (λ (x : Stays). x.nodes) k,
+    )
+
 pub agreement-requires : goal.agreement-requires
 agreement-requires c =
-    law.resolved _ _ _ _ _ _ _ _ c.requires _ _ c.resolve_sources.result c.resolve_sources.ensures
-    c.resolve_sources.auto.ids _ c.in-All.is
+    let k = c.resolve_sources.ensures.1 in
+    let r = law.resolved _ _ _ _ _ _ _ _ c.requires _ _ _ c.resolve_sources.result c.resolve_sources.ensures.0
+    c.resolve_sources.auto.ids (c.in_ok-resolve_sources.was ∙ ap Ok c.if-not-branch.false) in
+    (r.0, rw (ap (λ (x : Stays). x.scratch) k) r.1, r.2)
 
-pub returns-in-All : goal.returns-in-All
-returns-in-All c =
-    law.sources_agree _ _ _ _ _ _ _ _ c.requires _ _ c.resolve_sources.result c.resolve_sources.ensures
-    c.resolve_sources.auto.ids _ c.in-All.is _ _ _ c.agreement.ensures
-
-pub returns-in-Nothing : goal.returns-in-Nothing
-returns-in-Nothing c =
-    law.sources_stop _ _ _ _ _ _ _ _ c.requires _ _ c.resolve_sources.result c.resolve_sources.ensures _ c.in-Nothing.is
-
-pub returns-in-Full : goal.returns-in-Full
-returns-in-Full c =
-    law.sources_end _ _ _ _ _ _ _ _ c.requires _ _ c.resolve_sources.result c.resolve_sources.ensures _ c.in-Full.is
+pub returns : goal.returns
+returns c =
+    let k = c.resolve_sources.ensures.1 in
+    let a = c.agreement.ensures in (
+      law.sources_agree _ _ _ _ _ _ _ _ c.requires _ _ _ c.resolve_sources.result c.resolve_sources.ensures.0
+          c.resolve_sources.auto.ids (c.in_ok-resolve_sources.was ∙ ap Ok c.if-not-branch.false) _ _ _ _
+          (λ os. rw (ap (λ (x : Stays). x.scratch) k) at (a.0 os)),
+      a.1 ∙ ap (λ (x : Stays). x.kept) k,
+      a.2 ∙ ap (λ (x : Stays). x.nodes) k,
+    )

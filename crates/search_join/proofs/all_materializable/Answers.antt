@@ -1,5 +1,4 @@
 -- Each answer is a law of Heads. Assumes nothing.
-use Rattle.std.proofs.Common.{arith}
 use Rattle.search_join.proofs.Heads as law
 use Rattle.search_join.proofs.all_materializable.Goals as goal
 
@@ -13,12 +12,10 @@ returns-then-not-is_materializable c =
     c.is_materializable.ensures c.if-not-is_materializable.true
 
 pub loop-i-preserved : goal.loop-i-preserved
-loop-i-preserved c = (
-  omega arith,
-  law.one_more_is _ _ _ _ _ c.requires _ c.counts_of-counts.ensures _ c.loop-i-test.true _ c.word.ensures _
-      c.is_materializable.ensures c.if-not-is_materializable.false c.loop-i.invariant.1,
-)
+loop-i-preserved c =
+    law.one_more_is _ _ _ _ _ c.requires _ c.counts_of-counts.ensures _ c.loop-i-test.true _ c.word.ensures _
+    c.is_materializable.ensures c.if-not-is_materializable.false c.loop-i.invariant
 
 pub returns : goal.returns
 returns c =
-    law.all_are _ _ _ _ _ c.requires _ c.counts_of-counts.ensures _ c.loop-i-test.false c.loop-i.invariant.1
+    law.all_are _ _ _ _ _ c.requires _ c.counts_of-counts.ensures _ c.loop-i-test.false c.loop-i.invariant

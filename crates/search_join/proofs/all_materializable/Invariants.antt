@@ -1,11 +1,7 @@
 -- The loop over the sorts: each that was passed is materializable. Assumes nothing.
-use Rattle.std.proofs.Common.{◌≡◌, true, ℕ, ◌-◌, ◌<◌, ◌≤◌, get_or}
+use Rattle.std.proofs.Common.{◌≡◌, true, ℕ, ◌<◌, get_or}
 use Rattle.search_join.proofs.Heads.{Into}
 use Rattle.search_join.proofs.all_materializable.Given as goal
 
 abbrev pub invariant-loop-i : goal.invariant-loop-i
-invariant-loop-i l =
-    (l.i ≤ l.count) × ((x : ℕ) → x < l.i → Into l.sorts l.counts.sorts l.lub.0 (get_or l.ids x 0) ≡ true)
-
-abbrev pub decreases-loop-i : goal.decreases-loop-i
-decreases-loop-i l = l.count - l.i
+invariant-loop-i l = (x : ℕ) → x < l.i → Into l.sorts l.counts.sorts l.lub.0 (get_or l.ids x 0) ≡ true

@@ -1,35 +1,49 @@
 -- Each answer is a law of Resolving. Assumes nothing.
-use Rattle.std.proofs.Common.{arith}
+use Rattle.std.proofs.Common.{true, false, ap, ◌∙◌}
+use Rattle.std.specs.Prelude.{Ok}
+use Rattle.search_state.specs.Inner.Solving.{Stays}
+use Rattle.search_state.proofs.Solving.{no_room, not_some}
 use Rattle.search_join.proofs.Resolving as law
 use Rattle.search_join.proofs.resolve_sources.Goals as goal
 
-pub loop-i-init : goal.loop-i-init
-loop-i-init c = law.start _ _ _ _ _ _ c.args.sources c.requires
-
-pub overflow_add-start : goal.overflow_add-start
-overflow_add-start c = omega (arith, law.number_fits _ _ _ _ _ _ _ _ _ _ _ _ c.loop-i.invariant c.loop-i-test.true)
-
 pub sort_of-requires : goal.sort_of-requires
 sort_of-requires c =
-    law.source_ready _ _ _ _ _ _ _ _ _ _ _ _ c.loop-i.invariant c.loop-i-test.true _ c.source_at-next.ensures
+    law.source_ready _ _ _ _ _ _ _ _ _ _ _ _ c.loop-i.invariant.0 c.loop-i-test.true _ c.source_at-source.ensures
 
-pub returns-in-Nothing : goal.returns-in-Nothing
-returns-in-Nothing c =
-    law.stops _ _ _ _ _ _ _ _ _ _ _ _ c.loop-i.invariant c.loop-i-test.true _ c.source_at-next.ensures _
-    c.sort_of.result c.sort_of.ensures _ c.in-Nothing.is
+pub returns-in_err-sort : goal.returns-in_err-sort
+returns-in_err-sort c =
+    let k = c.loop-i.invariant.1 in (
+      law.as_entered _ _ _ _ _ _ (ap (λ (x : Stays). x.nodes) k) (ap (λ (x : Stays). x.kept.binds) k) (ap (λ (x : Stays). x.kept.given.lists) k)
+          _ _ _ _ _ _ _ _ (rw (no_room c.from_residual.result _ c.from_residual.ensures (record {}))
+          (law.ends _ _ _ _ _ _ _ _ _ _ _ _ c.loop-i.invariant.0 c.loop-i-test.true _ c.source_at-source.ensures _ _
+          c.sort_of.result c.sort_of.ensures.0 _ c.in_err-sort.was)),
+      c.sort_of.ensures.1 ∙ k,
+    )
 
-pub returns-in-Full : goal.returns-in-Full
-returns-in-Full c =
-    law.ends _ _ _ _ _ _ _ _ _ _ _ _ c.loop-i.invariant c.loop-i-test.true _ c.source_at-next.ensures _
-    c.sort_of.result c.sort_of.ensures _ c.in-Full.is
-
-pub overflow_add-i : goal.overflow_add-i
-overflow_add-i c = omega (arith, law.next_fits _ _ _ _ _ _ _ _ _ _ _ _ c.loop-i.invariant c.loop-i-test.true)
+pub returns-in_default : goal.returns-in_default
+returns-in_default c =
+    let k = c.loop-i.invariant.1 in (
+      law.as_entered _ _ _ _ _ _ (ap (λ (x : Stays). x.nodes) k) (ap (λ (x : Stays). x.kept.binds) k) (ap (λ (x : Stays). x.kept.given.lists) k)
+          _ _ _ _ c.sort_of.new.search.sorts.now c.loop-i.ids c.sort_of.new.search.lengths (Ok false)
+          (law.stops _ _ _ _ _ _ _ _ _ _ _ _ c.loop-i.invariant.0 c.loop-i-test.true _ c.source_at-source.ensures _ _
+          c.sort_of.result c.sort_of.ensures.0 (c.in_ok-sort.was ∙ ap Ok (not_some _ c.in_default.not-Some))),
+      c.sort_of.ensures.1 ∙ k,
+    )
 
 pub loop-i-preserved : goal.loop-i-preserved
 loop-i-preserved c =
-    law.next _ _ _ _ _ _ _ _ _ _ _ _ c.loop-i.invariant c.loop-i-test.true _ c.source_at-next.ensures _
-    c.sort_of.result c.sort_of.ensures _ _ c.in-At.is _ c.put.ensures
+    let k = c.sort_of.ensures.1 in (
+      law.going_as _ _ _ _ _ _ (ap (λ (x : Stays). x.nodes) k) (ap (λ (x : Stays). x.kept.binds) k) (ap (λ (x : Stays). x.kept.given.lists) k)
+          _ _ _ _ _ _ _ _ _
+          (law.next _ _ _ _ _ _ _ _ _ _ _ _ c.loop-i.invariant.0 c.loop-i-test.true _ c.source_at-source.ensures _ _
+          c.sort_of.result c.sort_of.ensures.0 _ (c.in_ok-sort.was ∙ ap Ok c.in-Some.is) _ c.put.ensures),
+      k ∙ c.loop-i.invariant.1,
+    )
 
 pub returns : goal.returns
-returns c = law.all_made _ _ _ _ _ _ _ _ _ _ _ _ c.loop-i.invariant c.loop-i-test.false
+returns c =
+    let k = c.loop-i.invariant.1 in (
+      law.as_entered _ _ _ _ _ _ (ap (λ (x : Stays). x.nodes) k) (ap (λ (x : Stays). x.kept.binds) k) (ap (λ (x : Stays). x.kept.given.lists) k)
+          _ _ _ _ c.loop-i.search.sorts.now c.loop-i.ids c.loop-i.search.lengths (Ok true) (law.all_made _ _ _ _ _ _ _ _ _ _ _ _ c.loop-i.invariant.0 c.loop-i-test.false),
+      k,
+    )

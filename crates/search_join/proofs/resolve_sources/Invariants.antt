@@ -1,11 +1,10 @@
 -- The loop over the sources keeps Going. Assumes nothing.
-use Rattle.std.proofs.Common.{◌-◌}
+use Rattle.search_state.specs.Inner.Solving.{OnlySorts}
 use Rattle.search_join.proofs.Resolving.{Going}
 use Rattle.search_join.proofs.resolve_sources.Given as goal
 
 abbrev pub invariant-loop-i : goal.invariant-loop-i
 invariant-loop-i l =
-    Going l.nodes l.binds l.lists l.start l.count l.initial.sorts l.initial.ids l.initial.here l.sorts l.ids l.here l.i
-
-abbrev pub decreases-loop-i : goal.decreases-loop-i
-decreases-loop-i l = l.count - l.i
+    Going l.search.nodes.now l.search.binds.now l.search.lists.now l.sources.start l.sources.count l.initial.search.sorts.now
+    l.initial.ids l.initial.search.lengths l.search.sorts.now l.ids l.search.lengths l.i
+    × OnlySorts l.initial.search l.search

@@ -1,5 +1,7 @@
 -- The sources of a Join on their way to an agreement: places that are resolved, and numbers of sorts that are joined.
-use Rattle.std.specs.Prelude.{List, ℕ, ◌+◌, ◌≤◌, length, take}
+use Rattle.std.specs.Prelude.{List, ℕ, ◌+◌, ◌≤◌, length, take, Option, Some, None, Result, Ok, Err}
+use Rattle.resolved_sort.specs.declared.SortId.{SortId}
+use Rattle.resolved_sort.specs.declared.NoRoom.{NoRoom}
 use Rattle.resolved_sort.specs.declared.Run.{Run}
 use Rattle.resolved_sort.specs.declared.Joined.{Joined}
 use Rattle.resolved_sort.specs.declared.Joined.TheVariants.{At, Nothing, Full}
@@ -10,16 +12,19 @@ use Rattle.unification.specs.Resolve.{with_counts}
 use Rattle.unification.specs.Growing.{PlacedIn}
 use Rattle.inference.specs.Constraints.{max_sources, rows_from}
 use Rattle.inference.specs.Typing.{All}
-use Rattle.search_state.specs.declared.Made.{Made}
-use Rattle.search_state.specs.declared.Made.TheVariants.{At as Is, Nothing as NoSort, Full as NoRoom}
 use Rattle.search_state.specs.Inner.Memory.{source_at}
 use Rattle.unification.specs.Inner.Making.{lent}
 
--- with the lengths then; where room ends, those of before
-abbrev pub made_from : Lengths → Joined → Made
-made_from k (At id c) = Is id (with_counts k c)
-made_from k (Nothing c) = NoSort (with_counts k c)
-made_from k Full = NoRoom k
+-- what resolve or join answers, and the lengths after it
+abbrev pub made_from : Joined → Result (Option SortId) NoRoom
+made_from (At id c) = Ok (Some id)
+made_from (Nothing c) = Ok None
+made_from Full = Err (record {})
+
+abbrev pub counted : Lengths → Joined → Lengths
+counted k (At id c) = with_counts k c
+counted k (Nothing c) = with_counts k c
+counted k Full = k
 
 -- sources that are places, with room for a number each
 pub record Sources (ws ns bs ls ids : List ℕ) (k : Lengths) (run : Run) : Type 0 where

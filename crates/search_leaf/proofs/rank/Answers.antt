@@ -1,9 +1,11 @@
--- By compare, where there is an incumbent. Assumes nothing.
+-- The order of slices is that of measures. Assumes nothing.
+use Rattle.std.proofs.Common.{ap}
+use Rattle.search_state.specs.Inner.Solving.{has_best}
 use Rattle.search_leaf.proofs.Ranks as law
 use Rattle.search_leaf.proofs.rank.Goals as goal
 
-pub returns-then-st : goal.returns-then-st
-returns-then-st c = law.rank_with _ _ _ c.compare.result c.if-st.true c.compare.ensures
+pub returns-in_default : goal.returns-in_default
+returns-in_default c = law.rank_without _ _ _ (law.no_best _ c.in_default.not-Some)
 
-pub returns-else-st : goal.returns-else-st
-returns-else-st c = law.rank_without _ _ _ c.if-st.false
+pub returns : goal.returns
+returns c = law.rank_with _ _ _ c.cmp.result (ap has_best c.in-Some.is) (law.ranked_slices c.args.search.now.scratch.now c.args.at.measure _ c.cmp.ensures)

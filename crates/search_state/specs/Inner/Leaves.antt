@@ -1,9 +1,17 @@
 -- What the functions that the search calls answer and leave.
 use Rattle.std.specs.Prelude.{◌≡◌, Bool, true, false, cond, List, [], ◌∷◌, ℕ, ◌+◌, ◌-◌, ◌≤◌, length, get_or, set, take, drop}
+use Rattle.std.specs.Prelude.{Some, None, Result, Ok, Err}
+use Rattle.std.specs.declared.cmp.Ordering.{Ordering}
+use Rattle.std.specs.declared.cmp.Ordering.TheVariants.{Less, Equal, Greater}
+use Rattle.std.specs.Prelude.{Option as Optional}
+use Rattle.resolved_sort.specs.declared.SortId.{SortId}
+use Rattle.resolved_sort.specs.declared.NoRoom.{NoRoom}
 use Rattle.std.proofs.Math.Option.{Option, none, some}
 use Rattle.resolved_sort.specs.Tree.{unit, primitive, def, typevar}
 use Rattle.unification.specs.declared.Lengths.{Lengths}
 use Rattle.unification.specs.declared.Tried.{Tried}
+use Rattle.unification.specs.declared.Full.{Full}
+use Rattle.unification.specs.declared.Full.TheVariants.{Sorts, Nodes}
 use Rattle.unification.specs.Term.{flat_head, container_head, function_head, stray_head, Shape, variable, over}
 use Rattle.unification.specs.Nodes.{Binds}
 use Rattle.unification.specs.Unify.{Unifies, and_then as after-yes, follow, deep, unify}
@@ -20,25 +28,15 @@ use Rattle.search_state.specs.declared.Sizes.{Sizes}
 use Rattle.search_state.specs.declared.State.{State}
 use Rattle.search_state.specs.declared.Branch.{Branch}
 use Rattle.search_state.specs.declared.Answer.{Answer}
-use Rattle.search_state.specs.declared.Answer.TheVariants.{Found, Missed, Full}
+use Rattle.search_state.specs.declared.Answer.TheVariants.{Found, Missed, Full as Ended}
 use Rattle.search_state.specs.declared.Pairs.{Pairs}
 use Rattle.search_state.specs.declared.Pairs.TheVariants.{One, Two}
 use Rattle.search_state.specs.declared.Step.{Step}
 use Rattle.search_state.specs.declared.Step.TheVariants.{Nothing, Component, Written, Choice}
 use Rattle.search_state.specs.declared.Four.{Four}
 use Rattle.search_state.specs.declared.Tries.{Tries}
-use Rattle.search_state.specs.declared.Widenings.{Widenings}
-use Rattle.search_state.specs.declared.Widenings.TheVariants.{These, NoList, Full as NoRoom}
 use Rattle.search_state.specs.declared.LitAt.{LitAt}
 use Rattle.search_state.specs.declared.LitAt.TheVariants.{Number, Free, Other}
-use Rattle.search_state.specs.declared.Made.{Made}
-use Rattle.search_state.specs.declared.Made.TheVariants.{At, Nothing as NoSort, Full as NoSortRoom}
-use Rattle.search_state.specs.declared.Extracted.{Extracted}
-use Rattle.search_state.specs.declared.Extracted.TheVariants.{All, Nothing as Without, Full as NotAll}
-use Rattle.search_state.specs.declared.Ordering.{Ordering}
-use Rattle.search_state.specs.declared.Ordering.TheVariants.{Less, Equal, Greater}
-use Rattle.search_state.specs.declared.Went.{Went}
-use Rattle.search_state.specs.declared.Went.TheVariants.{On as GoOn, Stop}
 use Rattle.search_state.specs.Inner.Memory.{measure_at, choices_at, trail_words, chosen_exprs, path_of}
 use Rattle.words.specs.Words.{part}
 
@@ -120,19 +118,25 @@ widenings B l r W =
     where_no_list (strict_related true B l W and-then (λ ps X. made (wider_tries r 1 ps) X))
     (λ U. strict_related false B r U and-then (λ ps X. made (narrower_tries l 1 ps) X))
 
-abbrev pub widened : List ℕ → List ℕ → Widenings → Makes (List Try)
-widened ws ns (These t k) = made (tries_from t 0) (lent ws ns k)
-widened ws ns (NoList k) = no_list (lent ws ns k)
-widened ws ns (NoRoom c k) = no_room c (lent ws ns k)
+-- the room that ended, by its number
+abbrev pub code_of : Full → ℕ
+code_of Sorts = 15
+code_of Nodes = 16
+
+-- the tries of a widening, with the lengths then
+abbrev pub widened : List ℕ → List ℕ → Lengths → Result (Optional Tries) Full → Makes (List Try)
+widened ws ns k (Ok (Some t)) = made (tries_from t 0) (lent ws ns k)
+widened ws ns k (Ok None) = no_list (lent ws ns k)
+widened ws ns k (Err full) = no_room (code_of full) (lent ws ns k)
 
 -- at most four tries, and their components are 1 and so on
-abbrev pub FewTries : Widenings → Type 0
-FewTries (These t k) = (t.count ≤ 4) × (t.first ≡ 1)
-FewTries (NoList k) = Unit {0}
-FewTries (NoRoom c k) = Unit {0}
+abbrev pub FewTries : Result (Optional Tries) Full → Type 0
+FewTries (Ok (Some t)) = (t.count ≤ 4) × (t.first ≡ 1)
+FewTries (Ok None) = Unit {0}
+FewTries (Err full) = Unit {0}
 
-pub record FindsWidenings (ws ns : List ℕ) (r : Widenings) (O : Makes (List Try)) : Type 0 where
-  pub says : widened ws ns r ≡ O
+pub record FindsWidenings (ws ns : List ℕ) (k : Lengths) (r : Result (Optional Tries) Full) (O : Makes (List Try)) : Type 0 where
+  pub says : widened ws ns k r ≡ O
   pub few : FewTries r
 
 -- what stands at the end of a literal's place, with the component that it costs
@@ -157,34 +161,34 @@ lit_end kind shape (some q) = lit_shape kind (shape q)
 unfoldable pub lit_at : LitKind → (ℕ → Shape) → Binds → ℕ → LitAt
 lit_at kind shape B p = lit_end kind shape (follow shape deep B p)
 
--- a sort that was made or found
-abbrev pub made_of : List ℕ → List ℕ → Made → Makes ℕ
-made_of ws ns (At s k) = made s.0 (lent ws ns k)
-made_of ws ns (NoSort k) = no_list (lent ws ns k)
-made_of ws ns (NoSortRoom k) = no_room 15 (lent ws ns k)
+-- a sort that was made or found, with the lengths then
+abbrev pub made_of : List ℕ → List ℕ → Lengths → Result (Optional SortId) NoRoom → Makes ℕ
+made_of ws ns k (Ok (Some s)) = made s.0 (lent ws ns k)
+made_of ws ns k (Ok None) = no_list (lent ws ns k)
+made_of ws ns k (Err full) = no_room 15 (lent ws ns k)
 
 -- The sort on which the n sources of a Join agree: their head distances stand in the scratch after
 -- the measure, and nothing else of it changes.
-abbrev pub agreement_of : List ℕ → List ℕ → List ℕ → Branch → ℕ → Made → Makes Agreed
-agreement_of ws ns sc e n (At s k) =
+abbrev pub agreement_of : List ℕ → List ℕ → List ℕ → Branch → ℕ → Lengths → Result (Optional SortId) NoRoom → Makes Agreed
+agreement_of ws ns sc e n k (Ok (Some s)) =
     made (record { sort = s.0; components = part (measure_at + e.measure) n sc }) (lent ws ns k)
-agreement_of ws ns sc e n (NoSort k) = no_list (lent ws ns k)
-agreement_of ws ns sc e n (NoSortRoom k) = no_room 15 (lent ws ns k)
+agreement_of ws ns sc e n k (Ok None) = no_list (lent ws ns k)
+agreement_of ws ns sc e n k (Err full) = no_room 15 (lent ws ns k)
 
-pub record AgreesOn (ns sc : List ℕ) (e : Branch) (n : ℕ) (O : Makes Agreed) (ws' sc' : List ℕ) (r : Made)
-    : Type 0 where
-  pub says : agreement_of ws' ns sc' e n r ≡ O
+pub record AgreesOn (ns sc : List ℕ) (e : Branch) (n : ℕ) (O : Makes Agreed) (ws' sc' : List ℕ) (k' : Lengths)
+    (r : Result (Optional SortId) NoRoom) : Type 0 where
+  pub says : agreement_of ws' ns sc' e n k' r ≡ O
   pub changed : ChangedOnly (measure_at + e.measure) (measure_at + e.measure + n) sc sc'
 
--- the sorts of n expressions, read out to the words from a on
-abbrev pub extracted_of : List ℕ → List ℕ → List ℕ → ℕ → ℕ → Extracted → Makes (List ℕ)
-extracted_of ws ns sc a n (All k) = made (part a n sc) (lent ws ns k)
-extracted_of ws ns sc a n (Without k) = no_list (lent ws ns k)
-extracted_of ws ns sc a n (NotAll k) = no_room 15 (lent ws ns k)
+-- the sorts of n expressions, read out to the words from a on: whether all have one
+abbrev pub extracted_of : List ℕ → List ℕ → List ℕ → ℕ → ℕ → Lengths → Result Bool NoRoom → Makes (List ℕ)
+extracted_of ws ns sc a n k (Ok true) = made (part a n sc) (lent ws ns k)
+extracted_of ws ns sc a n k (Ok false) = no_list (lent ws ns k)
+extracted_of ws ns sc a n k (Err full) = no_room 15 (lent ws ns k)
 
-pub record Extracts (ns sc : List ℕ) (a n : ℕ) (O : Makes (List ℕ)) (ws' sc' : List ℕ) (r : Extracted)
+pub record Extracts (ns sc : List ℕ) (a n : ℕ) (O : Makes (List ℕ)) (ws' sc' : List ℕ) (k' : Lengths) (r : Result Bool NoRoom)
     : Type 0 where
-  pub says : extracted_of ws' ns sc' a n r ≡ O
+  pub says : extracted_of ws' ns sc' a n k' r ≡ O
   pub changed : ChangedOnly a (a + n) sc sc'
 
 abbrev pub ranking_of : Ordering → Ranking
@@ -192,11 +196,10 @@ ranking_of Less = smaller
 ranking_of Equal = equal
 ranking_of Greater = greater
 
--- on after one of several alternatives
-abbrev pub after_of : Answer → Bool → Went
-after_of (Found k) b = GoOn k true
-after_of (Missed k) b = GoOn k b
-after_of (Full c k) b = Stop c k
+-- whether a leaf was found, with the state then
+abbrev pub says_of : Bool → State → Answer
+says_of true k = Found k
+says_of false k = Missed k
 
 -- "Nodes made for a widening are given back": the lengths of nodes are those of k
 abbrev pub with_nodes : Lengths → Lengths → Lengths
@@ -219,4 +222,4 @@ back_to k s = with_lengths s (with_nodes k s.lengths)
 abbrev pub given_back_to : Lengths → Answer → Answer
 given_back_to k (Found s) = Found (back_to k s)
 given_back_to k (Missed s) = Missed (back_to k s)
-given_back_to k (Full c l) = Full c l
+given_back_to k (Ended c l) = Ended c l

@@ -9,27 +9,31 @@ use Rattle.search_steps.proofs.lit_at.Goals as goal
 pub returns-in-Sort : goal.returns-in-Sort
 returns-in-Sort c =
     let a = c.args in
-    let s = apart.is_sort_lem _ _ c.taken_apart.ensures _ c.in-Sort.is in
-    literal.at_row a.sorts.now a.nodes.now a.binds.now a.lengths c.requires.0 a.kind a.id.0 c.requires.1 _
-    c.shallow_normalize-end.ensures s.0 _ (c.get.ensures ∙ ap (row_at a.sorts.now) s.1) _ c.lit_at_row.ensures
+    let s = a.search.now in
+    let q = apart.is_sort_lem _ _ c.taken_apart.ensures _ c.in-Sort.is in
+    literal.at_row s.sorts.now s.nodes.now s.binds.now s.lengths c.requires.0 a.kind a.id.0 c.requires.1 _
+    c.shallow_normalize-end.ensures q.0 _ (c.get.ensures ∙ ap (row_at s.sorts.now) q.1) _ c.lit_at_row.ensures
 
 pub returns-in-Generic : goal.returns-in-Generic
 returns-in-Generic c =
     let a = c.args in
+    let s = a.search.now in
     let n = apart.is_node _ _ c.taken_apart.ensures _ c.in-Node.is in
-    literal.other_at_container a.sorts.now a.nodes.now a.binds.now a.lengths c.requires.0 a.kind a.id.0 c.requires.1 _
-    c.shallow_normalize-end.ensures n.0 _ (c.node.ensures ∙ ap (node_at a.nodes.now) n.1) _ _ c.in-Generic.is
+    literal.other_at_container s.sorts.now s.nodes.now s.binds.now s.lengths c.requires.0 a.kind a.id.0 c.requires.1 _
+    c.shallow_normalize-end.ensures n.0 _ (c.node.ensures ∙ ap (node_at s.nodes.now) n.1) _ _ c.in-Generic.is
 
 pub returns-in-Function : goal.returns-in-Function
 returns-in-Function c =
     let a = c.args in
+    let s = a.search.now in
     let n = apart.is_node _ _ c.taken_apart.ensures _ c.in-Node.is in
-    literal.other_at_function a.sorts.now a.nodes.now a.binds.now a.lengths c.requires.0 a.kind a.id.0 c.requires.1 _
-    c.shallow_normalize-end.ensures n.0 _ (c.node.ensures ∙ ap (node_at a.nodes.now) n.1) _ _ c.in-Function.is
+    literal.other_at_function s.sorts.now s.nodes.now s.binds.now s.lengths c.requires.0 a.kind a.id.0 c.requires.1 _
+    c.shallow_normalize-end.ensures n.0 _ (c.node.ensures ∙ ap (node_at s.nodes.now) n.1) _ _ c.in-Function.is
 
 pub returns-in-Var : goal.returns-in-Var
 returns-in-Var c =
     let a = c.args in
+    let s = a.search.now in
     let n = apart.is_node _ _ c.taken_apart.ensures _ c.in-Node.is in
-    literal.free_at_variable a.sorts.now a.nodes.now a.binds.now a.lengths c.requires.0 a.kind a.id.0 c.requires.1 _
-    c.shallow_normalize-end.ensures n.0 _ (c.node.ensures ∙ ap (node_at a.nodes.now) n.1) _ c.in-Var.is
+    literal.free_at_variable s.sorts.now s.nodes.now s.binds.now s.lengths c.requires.0 a.kind a.id.0 c.requires.1 _
+    c.shallow_normalize-end.ensures n.0 _ (c.node.ensures ∙ ap (node_at s.nodes.now) n.1) _ c.in-Var.is

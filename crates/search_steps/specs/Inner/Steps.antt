@@ -1,5 +1,8 @@
 -- What the steps of the search answer.
-use Rattle.std.specs.Prelude.{◌≡◌, Bool, true, false, List, ℕ, ◌<◌, ◌≤◌, get_or}
+use Rattle.std.specs.Prelude.{◌≡◌, Bool, true, false, List, ℕ, ◌<◌, ◌≤◌, get_or, Option, Result, Ok, Err, ◌⊎◌}
+use Rattle.resolved_sort.specs.declared.SortId.{SortId}
+use Rattle.resolved_sort.specs.declared.NoRoom.{NoRoom}
+use Rattle.unification.specs.declared.Full.{Full}
 use Rattle.resolved_sort.specs.declared.ComplexSort.{ComplexSort}
 use Rattle.resolved_sort.specs.declared.ResolvedSort.{ResolvedSort}
 use Rattle.resolved_sort.specs.declared.ResolvedSort.TheVariants.{Unit as UnitRow, Primitive, Container, Function}
@@ -7,27 +10,18 @@ use Rattle.resolved_sort.specs.declared.ResolvedSort.TheVariants.{Def, TypeVar}
 use Rattle.unification.specs.declared.InferSortId.{InferSortId}
 use Rattle.unification.specs.declared.Lengths.{Lengths}
 use Rattle.unification.specs.declared.Related.{Related}
-use Rattle.unification.specs.Making.{made, ◌and-then◌, intern_container}
+use Rattle.unification.specs.declared.Related.TheVariants.{These, NoList, Full as Ended}
+use Rattle.unification.specs.Making.{Makes, made, no_room, ◌and-then◌, intern_container}
 use Rattle.unification.specs.Inner.Making.{lent}
 use Rattle.related_sorts.specs.Inner.Outcome.{related_made}
 use Rattle.inference.specs.declared.LitKind.{LitKind}
 use Rattle.inference.specs.Search.{Try, wider_tries, narrower_tries, lit_component, lit_tries}
-use Rattle.search_state.specs.declared.State.{State}
-use Rattle.search_state.specs.declared.Answer.{Answer}
-use Rattle.search_state.specs.declared.Answer.TheVariants.{Found, Missed}
 use Rattle.search_state.specs.declared.Pairs.{Pairs}
 use Rattle.search_state.specs.declared.Pairs.TheVariants.{One}
 use Rattle.search_state.specs.declared.Tries.{Tries}
 use Rattle.search_state.specs.declared.LitAt.{LitAt}
 use Rattle.search_state.specs.declared.LitAt.TheVariants.{Other}
-use Rattle.search_state.specs.declared.Made.{Made}
-use Rattle.search_state.specs.declared.Widenings.{Widenings}
-use Rattle.search_state.specs.Inner.Leaves.{places_of, tries_from, widened, FewTries, lit_number, made_of}
-
--- whether a leaf was found, as an answer
-abbrev pub says_of : Bool → State → Answer
-says_of true k = Found k
-says_of false k = Missed k
+use Rattle.search_state.specs.Inner.Leaves.{places_of, tries_from, widened, FewTries, lit_number}
 
 -- the places of a try
 abbrev pub pairs_of : Try → Pairs
@@ -51,8 +45,12 @@ pub record LitTries (kind : LitKind) (id : InferSortId) (r : Tries) : Type 0 whe
   pub other : r.other ≡ id
 
 -- A container that is interned, whatever the nodes are.
-unfoldable pub InternsContainer : ComplexSort → ℕ → List ℕ → Lengths → List ℕ → Made → Type 0
-InternsContainer o s ws k ws' r = (ns : List ℕ) → made_of ws' ns r ≡ intern_container o s (lent ws ns k)
+abbrev pub interned_of : List ℕ → List ℕ → Lengths → Result SortId NoRoom → Makes ℕ
+interned_of ws ns k (Ok s) = made s.0 (lent ws ns k)
+interned_of ws ns k (Err x) = no_room 15 (lent ws ns k)
+
+unfoldable pub InternsContainer : ComplexSort → ℕ → List ℕ → Lengths → List ℕ → Lengths → Result SortId NoRoom → Type 0
+InternsContainer o s ws k ws' k' r = (ns : List ℕ) → interned_of ws' ns k' r ≡ intern_container o s (lent ws ns k)
 
 -- Tries of the places ps in turn, against another place on their right (up) or on their left, with
 -- components from i on.
@@ -65,8 +63,20 @@ pub record ListedTries (up : Bool) (other : ℕ) (ps : List ℕ) (r : Tries) : T
   pub few : r.count ≤ 4
   pub first : r.first ≡ 1
 
+-- the lengths after listing
+abbrev pub lengths_after : Related → Lengths
+lengths_after (These t k) = k
+lengths_after (NoList k) = k
+lengths_after (Ended c k) = k
+
+-- room that ends is 15 or 16
+abbrev pub Coded : Related → Type 0
+Coded (These t k) = Unit {0}
+Coded (NoList k) = Unit {0}
+Coded (Ended c k) = (c ≡ 15) ⊎ (c ≡ 16)
+
 -- of whatever was listed, in any lists
-pub record AsTries (up : Bool) (other : ℕ) (found : Related) (r : Widenings) : Type 0 where
+pub record AsTries (up : Bool) (other : ℕ) (found : Related) (r : Result (Option Tries) Full) : Type 0 where
   pub says : (ws ns : List ℕ)
-      → widened ws ns r ≡ (related_made ws ns found and-then (λ ps W. made (tries_against up other 1 ps) W))
+      → widened ws ns (lengths_after found) r ≡ (related_made ws ns found and-then (λ ps W. made (tries_against up other 1 ps) W))
   pub few : FewTries r
