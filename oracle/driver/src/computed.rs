@@ -23,6 +23,7 @@ use mathlib.Core.Path.{◌≡◌, refl}
 use mathlib.Core.List.{List, [], ◌∷◌, ◌++◌, map}
 use Prim.Native.Nat.{ℕ, zero, suc, ◌+◌, ◌*◌, ◌-◌}
 use lib.ListN.{length, replicate, take, drop}
+use Rattle.resolved_sort.specs.Checks.{code_of}
 use Rattle.resolved_sort.specs.declared.Counts.{Counts}
 use Rattle.inference.specs.declared.Solved.{Solved}
 use Rattle.inference.specs.declared.Solved.TheVariants.{Refused, NoRoom, NoTyping, Ambiguous, Typing}
@@ -70,7 +71,7 @@ keeping G L k typing measure choices =
     (between (4096 + length G.entries) (4096 + k.entries) L.sorts)
 
 abbrev outcome_by : GivenList → SolveLeft → Solved → Outcome
-outcome_by G L (Refused c) = outcome c [] [] [] [] []
+outcome_by G L (Refused c) = outcome (code_of c) [] [] [] [] []
 outcome_by G L (NoRoom c) = outcome c [] [] [] [] []
 outcome_by G L (NoTyping k) = keeping G L k [] [] []
 outcome_by G L (Ambiguous k) = keeping G L k [] [] []
