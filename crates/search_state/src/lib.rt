@@ -40,6 +40,7 @@ pub struct Incumbent {
 
 // What the search works on: the lent sorts, nodes and bindings with how much of them is in use, the scratch, the lists
 // of the problem with their sizes, and the incumbent.
+// kept: functions take it, and no impl has them: a crate cannot write one for a struct of another crate.
 #[derive(Drop)]
 pub struct Search<'a> {
     pub sorts: &'a mut [u16],
@@ -82,6 +83,7 @@ pub enum Answer {
 
 // What comes next, where the Rust hands a closure to solve_widening: the constraints from a number on; or the sources
 // `from` .. `to` of a Join, widened to its target, and then the constraints from `then` on.
+// kept: a cycle of calls that goes through a closure gets no generated proof.
 #[derive(Clone, Copy, Debug, PartialEq, Eq)]
 pub enum Next {
     Solve(u16),
