@@ -3,7 +3,7 @@
 // stays.
 #![tactic(auto)]
 
-ghost use Rattle.std.specs.Prelude.{◌≡◌, true, false};
+ghost use Rattle.std.specs.Prelude.{◌≡◌, true, false, not};
 ghost use Rattle.resolved_sort.specs.Order.{le_level};
 ghost use Rattle.resolved_sort.specs.Rows.{left_at};
 ghost use Rattle.resolved_sort.specs.Bounds.{Asked, bound_at};
@@ -41,6 +41,7 @@ fn farther<H: Graded, T: Copy>(up: bool, lhs_head: H, rhs_head: H, lhs: T, rhs: 
 // The least common supersort of two sorts.
 // Commutative, associative and idempotent; sorts without a join are no error, only none. Sources need not convert into
 // their join (see is_materializable): who binds something to it asks that of every source first.
+#[cycle(join_meet)]
 pub fn join(sorts: &mut SortInterner, lhs: SortId, rhs: SortId) -> Result<Option<SortId>, NoRoom>
     requires { Asked sorts.old.words.now sorts.old.counts.sorts sorts.old.counts.entries lhs.0 rhs.0 }
     ensures same_reference { sorts.new.words.ghost_name ≡ sorts.old.words.ghost_name }
@@ -52,6 +53,7 @@ pub fn join(sorts: &mut SortInterner, lhs: SortId, rhs: SortId) -> Result<Option
 
 // The greatest common subsort of two sorts, the dual of join.
 // Join itself needs it: the domain of a join is the meet of the two domains.
+#[cycle(join_meet)]
 pub fn meet(sorts: &mut SortInterner, lhs: SortId, rhs: SortId) -> Result<Option<SortId>, NoRoom>
     requires { Asked sorts.old.words.now sorts.old.counts.sorts sorts.old.counts.entries lhs.0 rhs.0 }
     ensures same_reference { sorts.new.words.ghost_name ≡ sorts.old.words.ghost_name }
@@ -61,7 +63,28 @@ pub fn meet(sorts: &mut SortInterner, lhs: SortId, rhs: SortId) -> Result<Option
     bound(sorts, false, lhs, rhs)
 }
 
+// Two arguments of functions whose join (up) or meet is asked: a domain is contravariant, so they go the other way.
+#[cycle(join_meet)]
+fn against(
+    sorts: &mut SortInterner,
+    up: bool,
+    lhs: SortId,
+    rhs: SortId,
+) -> Result<Option<SortId>, NoRoom>
+    requires { Asked sorts.old.words.now sorts.old.counts.sorts sorts.old.counts.entries lhs.0 rhs.0 }
+    ensures same_reference { sorts.new.words.ghost_name ≡ sorts.old.words.ghost_name }
+    ensures left { left_at sorts.new.words.now sorts.new.counts result
+        ≡ bound_at (not up) sorts.old.words.now sorts.old.counts.sorts sorts.old.counts.entries lhs.0 rhs.0 }
+{
+    if up {
+        meet(sorts, lhs, rhs)
+    } else {
+        join(sorts, lhs, rhs)
+    }
+}
+
 // Join (up) or meet of two sorts. Equal numbers are equal sorts, and make nothing.
+#[cycle(join_meet)]
 pub fn bound(
     sorts: &mut SortInterner,
     up: bool,
@@ -110,10 +133,10 @@ pub fn bound(
         ) if lhs_domain.count == rhs_domain.count => {
             let mut domain = [SortId(0); ARGUMENT_WORDS];
             for k in 0..lhs_domain.count {
-                // The domain is contravariant, so the join's domain is the meet of the two domains.
+                // The domain is contravariant: the join's domain is the meet of the two domains, and the meet's their join.
                 let lhs_arg = sorts.argument(lhs_domain, k);
                 let rhs_arg = sorts.argument(rhs_domain, k);
-                let Some(arg) = bound(sorts, !up, lhs_arg, rhs_arg)? else {
+                let Some(arg) = against(sorts, up, lhs_arg, rhs_arg)? else {
                     return Ok(None);
                 };
                 domain[k as usize] = arg;

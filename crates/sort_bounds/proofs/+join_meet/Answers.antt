@@ -3,15 +3,15 @@ use Rattle.std.proofs.Common.{refl, ap, sym, arith, ◌∙◌, ◌≤◌}
 use Rattle.std.specs.Prelude.{Ok}
 use Rattle.resolved_sort.proofs.RowsSay as say
 use Rattle.sort_bounds.proofs.Ways as way
-use Rattle.sort_bounds.proofs.+bound.Goals as goal
+use Rattle.sort_bounds.proofs.+join_meet.Goals as goal
 
-pub returns-then-eq-clause-left : goal.returns-then-eq-clause-left
-returns-then-eq-clause-left t c =
+pub bound-returns-then-eq-clause-left : goal.bound-returns-then-eq-clause-left
+bound-returns-then-eq-clause-left t c =
     let s = c.args.sorts.now in
     way.itself s.words.now s.counts c.args.up c.args.lhs c.args.rhs c.requires (say.numbers_same _ _ c.eq.ensures c.if-eq.true)
 
-pub returns-in_default-farther-clause-left : goal.returns-in_default-farther-clause-left
-returns-in_default-farther-clause-left t c =
+pub bound-returns-in_default-farther-clause-left : goal.bound-returns-in_default-farther-clause-left
+bound-returns-in_default-farther-clause-left t c =
     let s = c.args.sorts.now in
     let i = c.in-Container-Container in
     way.no_operator s.words.now s.counts c.args.up c.args.lhs c.args.rhs c.requires
@@ -20,8 +20,8 @@ returns-in_default-farther-clause-left t c =
     (say.numbers_differ _ _ c.eq.ensures c.if-eq.false) c.get.ensures c.get-2.ensures i.is-0 i.is-1)
     _ c.farther-in-Container-Container.ensures c.in_default-farther.is
 
-pub bound-requires : goal.bound-requires
-bound-requires t c =
+pub bound-bound-requires : goal.bound-bound-requires
+bound-bound-requires t c =
     let s = c.args.sorts.now in
     let i = c.in-Container-Container in
     let h = way.parts_asked s.words.now s.counts c.args.up c.args.lhs c.args.rhs c.requires
@@ -30,8 +30,8 @@ bound-requires t c =
     (say.numbers_differ _ _ c.eq.ensures c.if-eq.false) c.get.ensures c.get-2.ensures i.is-0 i.is-1) in
     (omega (arith, c.decreases, h.0), h.1)
 
-pub returns-in_err-subsort-in-Container-Container-clause-left : goal.returns-in_err-subsort-in-Container-Container-clause-left
-returns-in_err-subsort-in-Container-Container-clause-left t c =
+pub bound-returns-in_err-subsort-in-Container-Container-clause-left : goal.bound-returns-in_err-subsort-in-Container-Container-clause-left
+bound-returns-in_err-subsort-in-Container-Container-clause-left t c =
     let s = c.args.sorts.now in
     let i = c.in-Container-Container in
     way.err_left _ _ _ c.from_residual.ensures.0 ∙ way.part_ends s.words.now s.counts c.args.up c.args.lhs c.args.rhs c.requires
@@ -41,8 +41,8 @@ returns-in_err-subsort-in-Container-Container-clause-left t c =
     _ c.farther-in-Container-Container.ensures _ c.in-Some.is
     _ _ _ c.bound.ensures.left c.in_err-subsort-in-Container-Container.was
 
-pub returns-in_default-2-clause-left : goal.returns-in_default-2-clause-left
-returns-in_default-2-clause-left t c =
+pub bound-returns-in_default-2-clause-left : goal.bound-returns-in_default-2-clause-left
+bound-returns-in_default-2-clause-left t c =
     let s = c.args.sorts.now in
     let i = c.in-Container-Container in
     way.part_stops s.words.now s.counts c.args.up c.args.lhs c.args.rhs c.requires
@@ -52,8 +52,8 @@ returns-in_default-2-clause-left t c =
     _ c.farther-in-Container-Container.ensures _ c.in-Some.is
     _ _ _ c.bound.ensures.left (c.in_ok-subsort-in-Container-Container.was ∙ ap Ok c.in_default-2.is)
 
-pub generic-requires : goal.generic-requires
-generic-requires t c =
+pub bound-generic-requires : goal.bound-generic-requires
+bound-generic-requires t c =
     let s = c.args.sorts.now in
     let i = c.in-Container-Container in
     way.generic_asked s.words.now s.counts c.args.up c.args.lhs c.args.rhs c.requires
@@ -64,8 +64,8 @@ generic-requires t c =
     _ _ _ c.bound.ensures.left
     _ (c.in_ok-subsort-in-Container-Container.was ∙ ap Ok c.in-Some-2.is)
 
-pub returns-in_err-generic-in-Container-Container-clause-left : goal.returns-in_err-generic-in-Container-Container-clause-left
-returns-in_err-generic-in-Container-Container-clause-left t c =
+pub bound-returns-in_err-generic-in-Container-Container-clause-left : goal.bound-returns-in_err-generic-in-Container-Container-clause-left
+bound-returns-in_err-generic-in-Container-Container-clause-left t c =
     let s = c.args.sorts.now in
     let i = c.in-Container-Container in
     way.err_left _ _ _ c.from_residual-in_err-generic-in-Container-Container.ensures.0
@@ -77,8 +77,8 @@ returns-in_err-generic-in-Container-Container-clause-left t c =
     _ _ _ c.bound.ensures.left
     _ (c.in_ok-subsort-in-Container-Container.was ∙ ap Ok c.in-Some-2.is) c.generic.new.self.words.now c.generic.new.self.counts c.generic.result c.generic.ensures.interned)
 
-pub loop-k-init : goal.loop-k-init
-loop-k-init t c =
+pub bound-loop-k-init : goal.bound-loop-k-init
+bound-loop-k-init t c =
     let s = c.args.sorts.now in
     let i = c.in-Function-Function in (
       refl,
@@ -87,8 +87,8 @@ loop-k-init t c =
           _ _ _ _ (sym c.get.ensures ∙ i.is-0) (sym c.get-2.ensures ∙ i.is-1) c.if-lhs_domain-rhs_domain.true,
     )
 
-pub bound-requires-in-loop-k : goal.bound-requires-in-loop-k
-bound-requires-in-loop-k t c =
+pub bound-against-requires : goal.bound-against-requires
+bound-against-requires t c =
     let s = c.args.sorts.now in
     let i = c.in-Function-Function in
     let h = way.arguments_asked s.words.now s.counts c.args.up c.args.lhs c.args.rhs c.requires
@@ -97,38 +97,38 @@ bound-requires-in-loop-k t c =
     _ _ _ _ c.loop-k.invariant.1 c.loop-k-test.true _ _ c.argument-lhs_arg.ensures c.argument-rhs_arg.ensures in
     (omega (arith, c.decreases, h.0), h.1)
 
-pub returns-in_err-arg-in-Function-Function-clause-same_reference : goal.returns-in_err-arg-in-Function-Function-clause-same_reference
-returns-in_err-arg-in-Function-Function-clause-same_reference t c =
-    c.bound-in-loop-k.ensures.same_reference ∙ c.loop-k.invariant.0
+pub bound-returns-in_err-arg-in-Function-Function-clause-same_reference : goal.bound-returns-in_err-arg-in-Function-Function-clause-same_reference
+bound-returns-in_err-arg-in-Function-Function-clause-same_reference t c =
+    c.against.ensures.same_reference ∙ c.loop-k.invariant.0
 
-pub returns-in_err-arg-in-Function-Function-clause-left : goal.returns-in_err-arg-in-Function-Function-clause-left
-returns-in_err-arg-in-Function-Function-clause-left t c =
+pub bound-returns-in_err-arg-in-Function-Function-clause-left : goal.bound-returns-in_err-arg-in-Function-Function-clause-left
+bound-returns-in_err-arg-in-Function-Function-clause-left t c =
     let s = c.args.sorts.now in
     let i = c.in-Function-Function in
     way.err_left _ _ _ c.from_residual-in_err-arg-in-Function-Function.ensures.0 ∙ way.arguments_end s.words.now s.counts c.args.up c.args.lhs c.args.rhs c.requires
     (say.numbers_differ _ _ c.eq.ensures c.if-eq.false)
     _ _ _ _ (sym c.get.ensures ∙ i.is-0) (sym c.get-2.ensures ∙ i.is-1) c.if-lhs_domain-rhs_domain.true
     _ _ _ _ c.loop-k.invariant.1 c.loop-k-test.true _ _ c.argument-lhs_arg.ensures c.argument-rhs_arg.ensures
-    _ _ _ c.bound-in-loop-k.ensures.left
+    _ _ _ c.against.ensures.left
     c.in_err-arg-in-Function-Function.was
 
-pub returns-in_default-3-clause-same_reference : goal.returns-in_default-3-clause-same_reference
-returns-in_default-3-clause-same_reference t c =
-    c.bound-in-loop-k.ensures.same_reference ∙ c.loop-k.invariant.0
+pub bound-returns-in_default-3-clause-same_reference : goal.bound-returns-in_default-3-clause-same_reference
+bound-returns-in_default-3-clause-same_reference t c =
+    c.against.ensures.same_reference ∙ c.loop-k.invariant.0
 
-pub returns-in_default-3-clause-left : goal.returns-in_default-3-clause-left
-returns-in_default-3-clause-left t c =
+pub bound-returns-in_default-3-clause-left : goal.bound-returns-in_default-3-clause-left
+bound-returns-in_default-3-clause-left t c =
     let s = c.args.sorts.now in
     let i = c.in-Function-Function in
     way.arguments_stop s.words.now s.counts c.args.up c.args.lhs c.args.rhs c.requires
     (say.numbers_differ _ _ c.eq.ensures c.if-eq.false)
     _ _ _ _ (sym c.get.ensures ∙ i.is-0) (sym c.get-2.ensures ∙ i.is-1) c.if-lhs_domain-rhs_domain.true
     _ _ _ _ c.loop-k.invariant.1 c.loop-k-test.true _ _ c.argument-lhs_arg.ensures c.argument-rhs_arg.ensures
-    _ _ _ c.bound-in-loop-k.ensures.left
+    _ _ _ c.against.ensures.left
     (c.in_ok-arg-in-Function-Function.was ∙ ap Ok c.in_default-3.is)
 
-pub bounds-domain-k : goal.bounds-domain-k
-bounds-domain-k t c =
+pub bound-bounds-domain-k : goal.bound-bounds-domain-k
+bound-bounds-domain-k t c =
     let s = c.args.sorts.now in
     let i = c.in-Function-Function in
     way.below_sixteen s.words.now s.counts c.args.up c.args.lhs c.args.rhs c.requires
@@ -136,21 +136,21 @@ bounds-domain-k t c =
     _ _ _ _ (sym c.get.ensures ∙ i.is-0) (sym c.get-2.ensures ∙ i.is-1) c.if-lhs_domain-rhs_domain.true
     _ _ _ _ c.loop-k.invariant.1 c.loop-k-test.true _ _ c.argument-lhs_arg.ensures c.argument-rhs_arg.ensures
 
-pub loop-k-preserved : goal.loop-k-preserved
-loop-k-preserved t c =
+pub bound-loop-k-preserved : goal.bound-loop-k-preserved
+bound-loop-k-preserved t c =
     let s = c.args.sorts.now in
     let i = c.in-Function-Function in (
-      c.bound-in-loop-k.ensures.same_reference ∙ c.loop-k.invariant.0,
+      c.against.ensures.same_reference ∙ c.loop-k.invariant.0,
       way.going_on s.words.now s.counts c.args.up c.args.lhs c.args.rhs c.requires
           (say.numbers_differ _ _ c.eq.ensures c.if-eq.false)
           _ _ _ _ (sym c.get.ensures ∙ i.is-0) (sym c.get-2.ensures ∙ i.is-1) c.if-lhs_domain-rhs_domain.true
           _ _ _ _ c.loop-k.invariant.1 c.loop-k-test.true _ _ c.argument-lhs_arg.ensures c.argument-rhs_arg.ensures
-          _ _ _ c.bound-in-loop-k.ensures.left
+          _ _ _ c.against.ensures.left
           _ (c.in_ok-arg-in-Function-Function.was ∙ ap Ok c.in-Some-3.is),
     )
 
-pub bound-requires-in-Function-Function : goal.bound-requires-in-Function-Function
-bound-requires-in-Function-Function t c =
+pub bound-bound-requires-in-Function-Function : goal.bound-bound-requires-in-Function-Function
+bound-bound-requires-in-Function-Function t c =
     let s = c.args.sorts.now in
     let i = c.in-Function-Function in
     let h = way.range_asked s.words.now s.counts c.args.up c.args.lhs c.args.rhs c.requires
@@ -160,12 +160,12 @@ bound-requires-in-Function-Function t c =
     (let h : c.loop-k.k ≤ i.lhs_domain.count = c.loop-k.auto.k-end in omega (arith, c.loop-k-test.false)) in
     (omega (arith, c.decreases, h.0), h.1)
 
-pub returns-in_err-range-in-Function-Function-clause-same_reference : goal.returns-in_err-range-in-Function-Function-clause-same_reference
-returns-in_err-range-in-Function-Function-clause-same_reference t c =
+pub bound-returns-in_err-range-in-Function-Function-clause-same_reference : goal.bound-returns-in_err-range-in-Function-Function-clause-same_reference
+bound-returns-in_err-range-in-Function-Function-clause-same_reference t c =
     c.bound-in-Function-Function.ensures.same_reference ∙ c.loop-k.invariant.0
 
-pub returns-in_err-range-in-Function-Function-clause-left : goal.returns-in_err-range-in-Function-Function-clause-left
-returns-in_err-range-in-Function-Function-clause-left t c =
+pub bound-returns-in_err-range-in-Function-Function-clause-left : goal.bound-returns-in_err-range-in-Function-Function-clause-left
+bound-returns-in_err-range-in-Function-Function-clause-left t c =
     let s = c.args.sorts.now in
     let i = c.in-Function-Function in
     way.err_left _ _ _ c.from_residual-in_err-range-in-Function-Function.ensures.0 ∙ way.range_ends s.words.now s.counts c.args.up c.args.lhs c.args.rhs c.requires
@@ -175,12 +175,12 @@ returns-in_err-range-in-Function-Function-clause-left t c =
     (let h : c.loop-k.k ≤ i.lhs_domain.count = c.loop-k.auto.k-end in omega (arith, c.loop-k-test.false)) _ _ _ c.bound-in-Function-Function.ensures.left
     c.in_err-range-in-Function-Function.was
 
-pub returns-in_default-4-clause-same_reference : goal.returns-in_default-4-clause-same_reference
-returns-in_default-4-clause-same_reference t c =
+pub bound-returns-in_default-4-clause-same_reference : goal.bound-returns-in_default-4-clause-same_reference
+bound-returns-in_default-4-clause-same_reference t c =
     c.bound-in-Function-Function.ensures.same_reference ∙ c.loop-k.invariant.0
 
-pub returns-in_default-4-clause-left : goal.returns-in_default-4-clause-left
-returns-in_default-4-clause-left t c =
+pub bound-returns-in_default-4-clause-left : goal.bound-returns-in_default-4-clause-left
+bound-returns-in_default-4-clause-left t c =
     let s = c.args.sorts.now in
     let i = c.in-Function-Function in
     way.range_stops s.words.now s.counts c.args.up c.args.lhs c.args.rhs c.requires
@@ -190,8 +190,8 @@ returns-in_default-4-clause-left t c =
     (let h : c.loop-k.k ≤ i.lhs_domain.count = c.loop-k.auto.k-end in omega (arith, c.loop-k-test.false)) _ _ _ c.bound-in-Function-Function.ensures.left
     (c.in_ok-range-in-Function-Function.was ∙ ap Ok c.in_default-4.is)
 
-pub slice_bounds-domain-end : goal.slice_bounds-domain-end
-slice_bounds-domain-end t c =
+pub bound-slice_bounds-domain-end : goal.bound-slice_bounds-domain-end
+bound-slice_bounds-domain-end t c =
     let s = c.args.sorts.now in
     let i = c.in-Function-Function in
     way.domain_fits s.words.now s.counts c.args.up c.args.lhs c.args.rhs c.requires
@@ -200,8 +200,8 @@ slice_bounds-domain-end t c =
     _ _ _ _ c.loop-k.invariant.1
     (let h : c.loop-k.k ≤ i.lhs_domain.count = c.loop-k.auto.k-end in omega (arith, c.loop-k-test.false))
 
-pub slice_bounds-function-end : goal.slice_bounds-function-end
-slice_bounds-function-end t c =
+pub bound-slice_bounds-function-end : goal.bound-slice_bounds-function-end
+bound-slice_bounds-function-end t c =
     let s = c.args.sorts.now in
     let i = c.in-Function-Function in
     way.domain_long s.words.now s.counts c.args.up c.args.lhs c.args.rhs c.requires
@@ -210,8 +210,8 @@ slice_bounds-function-end t c =
     _ _ _ _ c.loop-k.invariant.1
     (let h : c.loop-k.k ≤ i.lhs_domain.count = c.loop-k.auto.k-end in omega (arith, c.loop-k-test.false))
 
-pub function-requires : goal.function-requires
-function-requires t c =
+pub bound-function-requires : goal.bound-function-requires
+bound-function-requires t c =
     let s = c.args.sorts.now in
     let i = c.in-Function-Function in
     way.function_asked s.words.now s.counts c.args.up c.args.lhs c.args.rhs c.requires
@@ -221,12 +221,12 @@ function-requires t c =
     (let h : c.loop-k.k ≤ i.lhs_domain.count = c.loop-k.auto.k-end in omega (arith, c.loop-k-test.false)) _ _ _ c.bound-in-Function-Function.ensures.left
     _ (c.in_ok-range-in-Function-Function.was ∙ ap Ok c.in-Some-4.is)
 
-pub returns-in_err-function-in-Function-Function-clause-same_reference : goal.returns-in_err-function-in-Function-Function-clause-same_reference
-returns-in_err-function-in-Function-Function-clause-same_reference t c =
+pub bound-returns-in_err-function-in-Function-Function-clause-same_reference : goal.bound-returns-in_err-function-in-Function-Function-clause-same_reference
+bound-returns-in_err-function-in-Function-Function-clause-same_reference t c =
     c.function.ensures.same_reference ∙ (c.bound-in-Function-Function.ensures.same_reference ∙ c.loop-k.invariant.0)
 
-pub returns-in_err-function-in-Function-Function-clause-left : goal.returns-in_err-function-in-Function-Function-clause-left
-returns-in_err-function-in-Function-Function-clause-left t c =
+pub bound-returns-in_err-function-in-Function-Function-clause-left : goal.bound-returns-in_err-function-in-Function-Function-clause-left
+bound-returns-in_err-function-in-Function-Function-clause-left t c =
     let s = c.args.sorts.now in
     let i = c.in-Function-Function in
     way.err_left _ _ _ c.from_residual-in_err-function-in-Function-Function.ensures.0
@@ -237,8 +237,8 @@ returns-in_err-function-in-Function-Function-clause-left t c =
     (let h : c.loop-k.k ≤ i.lhs_domain.count = c.loop-k.auto.k-end in omega (arith, c.loop-k-test.false)) _ _ _ c.bound-in-Function-Function.ensures.left
     _ (c.in_ok-range-in-Function-Function.was ∙ ap Ok c.in-Some-4.is) c.function.new.self.words.now c.function.new.self.counts c.function.result c.function.ensures.interned)
 
-pub returns-in-Primitive-Primitive-clause-left : goal.returns-in-Primitive-Primitive-clause-left
-returns-in-Primitive-Primitive-clause-left t c =
+pub bound-returns-in-Primitive-Primitive-clause-left : goal.bound-returns-in-Primitive-Primitive-clause-left
+bound-returns-in-Primitive-Primitive-clause-left t c =
     let s = c.args.sorts.now in
     let i = c.in-Primitive-Primitive in
     way.number s.words.now s.counts c.args.up c.args.lhs c.args.rhs c.requires
@@ -246,8 +246,8 @@ returns-in-Primitive-Primitive-clause-left t c =
     (say.primitives c.requires.checked c.requires.lhs c.requires.rhs
     (say.numbers_differ _ _ c.eq.ensures c.if-eq.false) c.get.ensures c.get-2.ensures i.is-0 i.is-1) _ c.farther.ensures
 
-pub returns-in_ok-generic-in-Container-Container-clause-left : goal.returns-in_ok-generic-in-Container-Container-clause-left
-returns-in_ok-generic-in-Container-Container-clause-left t c =
+pub bound-returns-in_ok-generic-in-Container-Container-clause-left : goal.bound-returns-in_ok-generic-in-Container-Container-clause-left
+bound-returns-in_ok-generic-in-Container-Container-clause-left t c =
     let s = c.args.sorts.now in
     let i = c.in-Container-Container in
     way.made_of c.generic.new.self.words.now c.generic.new.self.counts c.generic.result c.in_ok-generic-in-Container-Container.was ∙ way.container_made s.words.now s.counts c.args.up c.args.lhs c.args.rhs c.requires
@@ -258,12 +258,12 @@ returns-in_ok-generic-in-Container-Container-clause-left t c =
     _ _ _ c.bound.ensures.left
     _ (c.in_ok-subsort-in-Container-Container.was ∙ ap Ok c.in-Some-2.is) c.generic.new.self.words.now c.generic.new.self.counts c.generic.result c.generic.ensures.interned
 
-pub returns-in_ok-function-in-Function-Function-clause-same_reference : goal.returns-in_ok-function-in-Function-Function-clause-same_reference
-returns-in_ok-function-in-Function-Function-clause-same_reference t c =
+pub bound-returns-in_ok-function-in-Function-Function-clause-same_reference : goal.bound-returns-in_ok-function-in-Function-Function-clause-same_reference
+bound-returns-in_ok-function-in-Function-Function-clause-same_reference t c =
     c.function.ensures.same_reference ∙ (c.bound-in-Function-Function.ensures.same_reference ∙ c.loop-k.invariant.0)
 
-pub returns-in_ok-function-in-Function-Function-clause-left : goal.returns-in_ok-function-in-Function-Function-clause-left
-returns-in_ok-function-in-Function-Function-clause-left t c =
+pub bound-returns-in_ok-function-in-Function-Function-clause-left : goal.bound-returns-in_ok-function-in-Function-Function-clause-left
+bound-returns-in_ok-function-in-Function-Function-clause-left t c =
     let s = c.args.sorts.now in
     let i = c.in-Function-Function in
     way.made_of c.function.new.self.words.now c.function.new.self.counts c.function.result c.in_ok-function-in-Function-Function.was ∙ way.function_made s.words.now s.counts c.args.up c.args.lhs c.args.rhs c.requires
@@ -273,8 +273,8 @@ returns-in_ok-function-in-Function-Function-clause-left t c =
     (let h : c.loop-k.k ≤ i.lhs_domain.count = c.loop-k.auto.k-end in omega (arith, c.loop-k-test.false)) _ _ _ c.bound-in-Function-Function.ensures.left
     _ (c.in_ok-range-in-Function-Function.was ∙ ap Ok c.in-Some-4.is) c.function.new.self.words.now c.function.new.self.counts c.function.result c.function.ensures.interned
 
-pub returns-in_default : goal.returns-in_default
-returns-in_default t c =
+pub bound-returns-in_default : goal.bound-returns-in_default
+bound-returns-in_default t c =
     let s = c.args.sorts.now in
     record {
       same_reference = refl;
@@ -284,8 +284,8 @@ returns-in_default t c =
           (say.numbers_differ _ _ c.eq.ensures c.if-eq.false) c.get.ensures c.get-2.ensures c.in_default.is-0 c.in_default.not-Primitive-1);
     }
 
-pub returns-in_default-6 : goal.returns-in_default-6
-returns-in_default-6 t c =
+pub bound-returns-in_default-6 : goal.bound-returns-in_default-6
+bound-returns-in_default-6 t c =
     let s = c.args.sorts.now in
     record {
       same_reference = refl;
@@ -295,8 +295,8 @@ returns-in_default-6 t c =
           (say.numbers_differ _ _ c.eq.ensures c.if-eq.false) c.get.ensures c.get-2.ensures c.in_default.is-0 c.in_default.not-Container-1);
     }
 
-pub returns-in_default-7-clause-left : goal.returns-in_default-7-clause-left
-returns-in_default-7-clause-left t c =
+pub bound-returns-in_default-7-clause-left : goal.bound-returns-in_default-7-clause-left
+bound-returns-in_default-7-clause-left t c =
     let s = c.args.sorts.now in
     let i = c.in-Function-Function in
     way.other s.words.now s.counts c.args.up c.args.lhs c.args.rhs c.requires
@@ -304,8 +304,8 @@ returns-in_default-7-clause-left t c =
     (say.unlike_functions c.requires.checked c.requires.lhs c.requires.rhs
     (say.numbers_differ _ _ c.eq.ensures c.if-eq.false) c.get.ensures c.get-2.ensures i.is-0 i.is-1 c.if-lhs_domain-rhs_domain.false)
 
-pub returns-in_default-8 : goal.returns-in_default-8
-returns-in_default-8 t c =
+pub bound-returns-in_default-8 : goal.bound-returns-in_default-8
+bound-returns-in_default-8 t c =
     let s = c.args.sorts.now in
     record {
       same_reference = refl;
@@ -315,8 +315,8 @@ returns-in_default-8 t c =
           (say.numbers_differ _ _ c.eq.ensures c.if-eq.false) c.get.ensures c.get-2.ensures c.in_default.is-0 c.in_default.not-Function-1);
     }
 
-pub returns-in_default-5-clause-left : goal.returns-in_default-5-clause-left
-returns-in_default-5-clause-left t c =
+pub bound-returns-in_default-5-clause-left : goal.bound-returns-in_default-5-clause-left
+bound-returns-in_default-5-clause-left t c =
     let s = c.args.sorts.now in
     way.other s.words.now s.counts c.args.up c.args.lhs c.args.rhs c.requires
     (say.numbers_differ _ _ c.eq.ensures c.if-eq.false)
