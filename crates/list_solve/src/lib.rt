@@ -30,7 +30,12 @@ pub fn ask(list: &[u16], told: &mut Told<'_>) -> Solved
     copy(&mut binds, 0, list, LIST_BINDS_AT, MAX_VARS);
     copy(&mut scratch, 0, list, LIST_SCRATCH_AT, SCRATCH_WORDS);
     let nodes_end = length_of(list, Slice::Nodes, NODE_WORDS, NODE_WORDS);
-    let binds_end = length_of(list, Slice::Bindings, rows_given(list, Table::Vars), MAX_VARS);
+    let binds_end = length_of(
+        list,
+        Slice::Bindings,
+        rows_given(list, Table::Vars),
+        MAX_VARS,
+    );
     let scratch_end = length_of(list, Slice::Scratch, SCRATCH_WORDS, SCRATCH_WORDS);
     solve_list(
         list,

@@ -141,7 +141,12 @@ fn go_on(
 }
 
 // Checks 1 to 4, 14 and 19: the first that fails.
-fn test_read(sorts: &[u16], sort_count: usize, entry_count: usize, line: &[u8]) -> Result<(), Refusal>
+fn test_read(
+    sorts: &[u16],
+    sort_count: usize,
+    entry_count: usize,
+    line: &[u8],
+) -> Result<(), Refusal>
     ensures { result
         ≡ first_failing (read_checks sorts.now sort_count entry_count line.now) }
 {
