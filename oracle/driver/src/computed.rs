@@ -112,12 +112,16 @@ repeated (suc n) kind part ws = four_words kind part 0 0 (repeated n kind part w
 ";
 const PADDING_OPENED: &str = " defs repeated";
 
+/// What a proof over refused lists opens besides: the number of a refusal.
+const REFUSED_OPENED: &str = " code_of";
+
 /// A list and its answer in antt.
 pub struct Case {
     title: String,
     given: String,
     outcome: String,
     padded: bool,
+    refused: bool,
 }
 
 impl Case {
@@ -126,7 +130,8 @@ impl Case {
         sayable(list)?;
         let (given, outcome) = (given(list), outcome(list, asked));
         let padded = [DEFS, REPEATED].iter().any(|builder| given.contains(builder));
-        Ok(Case { title: list.title.clone(), given, outcome, padded })
+        let refused = (1..=14).contains(&asked.answer.code);
+        Ok(Case { title: list.title.clone(), given, outcome, padded, refused })
     }
 }
 
@@ -153,13 +158,14 @@ fn proof(number: &str, cases: &[Case], opened: &str) -> String {
         let cons = if index == 0 { "" } else { "∷ " };
         list += &format!("    -- {}\n    {cons}(\n      {},\n      {},\n    )\n", case.title, case.given, case.outcome);
     }
+    let numbered = if cases.iter().any(|case| case.refused) { REFUSED_OPENED } else { "" };
     format!(
         "pub cases{number} : List Case
 cases{number} =
 {list}    ∷ []
 
 pub compared{number} : map (λ (c : Case). outcome_of c.0) cases{number} ≡ map (λ (c : Case). c.1) cases{number}
-unfolding {OPENED}{opened} cases{number}
+unfolding {OPENED}{opened}{numbered} cases{number}
 compared{number} = refl
 "
     )
