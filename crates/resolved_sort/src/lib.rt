@@ -4,6 +4,7 @@
 ghost use Rattle.std.specs.Prelude.{◌≡◌};
 ghost use Rattle.resolved_sort.specs.declared.Refusal.TheVariants.{SortsFull};
 ghost use Rattle.resolved_sort.specs.Checks.{code_of};
+ghost use Rattle.resolved_sort.specs.Storage.{kind_op};
 
 // The number of a sort in the sort list. A type of its own, as the Rust's ResolvedSortId: sort, node, variable and
 // expression numbers do not mix.
@@ -117,6 +118,16 @@ impl Refusal {
     }
 }
 
+impl From<ComplexSort> for u16 {
+    ghost from_gives = { λ op kind. kind ≡ kind_op op };
+
+    // The kind of a container's row. Two operators never share one.
+    #[tactic(auto, unfolding(crate::specs::Storage::kind_op))]
+    fn from(op: ComplexSort) -> Self {
+        FIRST_CONTAINER + (op as u16)
+    }
+}
+
 impl From<NoRoom> for Refusal {
     ghost from_gives = { λ _ e. e ≡ SortsFull };
 
@@ -185,6 +196,3 @@ pub const FUNCTION_KIND: u16 = 11;
 pub const DEF_KIND: u16 = 12;
 
 pub const LAST_KIND: u16 = 13;
-
-// Where the sums of a distance stop.
-pub const MOST_STEPS: u8 = 255;

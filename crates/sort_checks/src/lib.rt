@@ -32,77 +32,93 @@ pub fn within_lent(sorts: &[u16], n: usize, e: usize) -> bool
     storage_within(sorts, n, e, SORT_NUMBERS)
 }
 
-// Check 2: the first six rows are there and are of kinds 0 to 5 in order. Fewer than six rows are refused.
-fn fixed_six(sorts: &[u16], n: usize) -> bool
-    ensures { result ≡ fixed_six sorts.now n }
-{
-    6 <= n && (0..6).all(|i: u16| word(sorts, ROW_WORDS * (i as usize)) == i)
+// Sort storage as it was lent, with the counts given of it.
+#[derive(Clone, Copy)]
+struct Lent<'a> {
+    words: &'a [u16],
+    sorts: usize,
+    entries: usize,
 }
 
-// Whether each entry of a run names a sort below this one. An entry that is it itself does not.
-fn args_below(sorts: &[u16], run: Run, id: SortId) -> bool
-    ensures { result ≡ all_below run.count (arg_below sorts.now run.start id.0) }
-{
-    (0..run.count).all(|j| word(sorts, ENTRIES_AT + ((run.start as usize) + (j as usize))) < id.0)
-}
-
-// Whether a function's row has at most 16 arguments, a run inside the e entries, and parts below it.
-#[tactic(auto, unfolding(resolved_sort::specs::Checks::parts_below, crate::specs::Inner::Tests::arg_below))]
-fn function_fine(sorts: &[u16], e: usize, id: SortId, domain: Run, range: SortId) -> bool
-    ensures { result ≡ parts_below sorts.now e id.0 (ResolvedSort.Function domain range) }
-{
-    domain.count <= MAX_ARGUMENTS
-        && (domain.start as usize) + (domain.count as usize) <= e
-        && range.0 < id.0
-        && args_below(sorts, domain, id)
-}
-
-// Whether the parts of a row, which says sort, are numbered below it. A part that is the row itself is not.
-#[tactic(auto, unfolding(resolved_sort::specs::Checks::parts_below))]
-fn parts_below(sorts: &[u16], e: usize, id: SortId, sort: ResolvedSort) -> bool
-    ensures { result ≡ parts_below sorts.now e id.0 sort }
-{
-    match sort {
-        ResolvedSort::Container { op: _, subsort } => subsort.0 < id.0,
-        ResolvedSort::Function { domain, range } => function_fine(sorts, e, id, domain, range),
-        ResolvedSort::Unit
-        | ResolvedSort::Primitive(_)
-        | ResolvedSort::Def(_)
-        | ResolvedSort::TypeVar(_) => true,
+impl<'a> Lent<'a> {
+    // Check 2: the first six rows are there and are of kinds 0 to 5 in order. Fewer than six rows are refused.
+    fn fixed_six(&self) -> bool
+        ensures { result ≡ fixed_six self.now.words.now self.now.sorts }
+    {
+        6 <= self.sorts && (0..6).all(|i: u16| word(self.words, ROW_WORDS * (i as usize)) == i)
     }
-}
 
-// Whether a sort's row is of a known kind and its parts are below it. Kinds above 13 are unknown.
-#[tactic(auto, unfolding(resolved_sort::specs::Checks::row_fine_of))]
-fn row_fine(sorts: &[u16], e: usize, id: SortId) -> bool
-    ensures { result ≡ row_fine_of sorts.now e id.0 }
-{
-    word(sorts, ROW_WORDS * (id.0 as usize)) <= LAST_KIND
-        && parts_below(sorts, e, id, get(sorts, id))
-}
+    // Whether each entry of a run names a sort below this one. An entry that is it itself does not.
+    fn args_below(&self, run: Run, id: SortId) -> bool
+        ensures { result ≡ all_below run.count (arg_below self.now.words.now run.start id.0) }
+    {
+        (0..run.count).all(|j| {
+            word(
+                self.words,
+                ENTRIES_AT + ((run.start as usize) + (j as usize)),
+            ) < id.0
+        })
+    }
 
-// Check 3: each of the n rows is fine. None is left out.
-fn rows_fine(sorts: &[u16], n: usize, e: usize) -> bool
-    requires { n ≤ max_sorts }
-    ensures { result ≡ rows_fine sorts.now n e }
-{
-    (0..n).all(|i| row_fine(sorts, e, SortId(i as u16)))
-}
+    // Whether a function's row has at most 16 arguments, a run inside the entries, and parts below it.
+    #[tactic(auto, unfolding(resolved_sort::specs::Checks::parts_below, crate::specs::Inner::Tests::arg_below))]
+    fn function_fine(&self, id: SortId, domain: Run, range: SortId) -> bool
+        ensures { result
+            ≡ parts_below self.now.words.now self.now.entries id.0 (ResolvedSort.Function domain range) }
+    {
+        domain.count <= MAX_ARGUMENTS
+            && (domain.start as usize) + (domain.count as usize) <= self.entries
+            && range.0 < id.0
+            && self.args_below(domain, id)
+    }
 
-// Whether no row below a sort's row is the same as it. The row itself does not count.
-fn new_row(sorts: &[u16], id: SortId) -> bool
-    ensures { result ≡ new_row sorts.now id.0 }
-{
-    (0..id.0).all(|i| !same_rows(sorts, SortId(i), id))
-}
+    // Whether the parts of a row, which says sort, are numbered below it. A part that is the row itself is not.
+    #[tactic(auto, unfolding(resolved_sort::specs::Checks::parts_below))]
+    fn parts_below(&self, id: SortId, sort: ResolvedSort) -> bool
+        ensures { result ≡ parts_below self.now.words.now self.now.entries id.0 sort }
+    {
+        match sort {
+            ResolvedSort::Container { op: _, subsort } => subsort.0 < id.0,
+            ResolvedSort::Function { domain, range } => self.function_fine(id, domain, range),
+            ResolvedSort::Unit
+            | ResolvedSort::Primitive(_)
+            | ResolvedSort::Def(_)
+            | ResolvedSort::TypeVar(_) => true,
+        }
+    }
 
-// Check 4 on rows: no two of the first n are the same. No pair is left out.
-// A sort with two numbers would break what all above rests on: that sorts are equal exactly where their numbers are.
-fn no_two_equal_rows(sorts: &[u16], n: usize) -> bool
-    requires { n ≤ max_sorts }
-    ensures { result ≡ no_same_rows sorts.now n }
-{
-    (0..n).all(|j| new_row(sorts, SortId(j as u16)))
+    // Whether a sort's row is of a known kind and its parts are below it. Kinds above 13 are unknown.
+    #[tactic(auto, unfolding(resolved_sort::specs::Checks::row_fine_of))]
+    fn row_fine(&self, id: SortId) -> bool
+        ensures { result ≡ row_fine_of self.now.words.now self.now.entries id.0 }
+    {
+        word(self.words, ROW_WORDS * (id.0 as usize)) <= LAST_KIND
+            && self.parts_below(id, get(self.words, id))
+    }
+
+    // Check 3: each of the rows is fine. None is left out.
+    fn rows_fine(&self) -> bool
+        requires { self.now.sorts ≤ max_sorts }
+        ensures { result ≡ rows_fine self.now.words.now self.now.sorts self.now.entries }
+    {
+        (0..self.sorts).all(|i| self.row_fine(SortId(i as u16)))
+    }
+
+    // Whether no row below a sort's row is the same as it. The row itself does not count.
+    fn new_row(&self, id: SortId) -> bool
+        ensures { result ≡ new_row self.now.words.now id.0 }
+    {
+        (0..id.0).all(|i| !same_rows(self.words, SortId(i), id))
+    }
+
+    // Check 4 on rows: no two of them are the same. No pair is left out.
+    // A sort with two numbers would break what all above rests on: that sorts are equal exactly where their numbers are.
+    fn no_two_equal_rows(&self) -> bool
+        requires { self.now.sorts ≤ max_sorts }
+        ensures { result ≡ no_same_rows self.now.words.now self.now.sorts }
+    {
+        (0..self.sorts).all(|j| self.new_row(SortId(j as u16)))
+    }
 }
 
 // Checks 1 to 4: the first that fails.
@@ -112,13 +128,18 @@ pub fn test_sorts(sorts: &[u16], sort_count: usize, entry_count: usize) -> Resul
     if !within_lent(sorts, sort_count, entry_count) {
         return Err(Refusal::NotLent);
     }
-    if !fixed_six(sorts, sort_count) {
+    let lent = Lent {
+        words: sorts,
+        sorts: sort_count,
+        entries: entry_count,
+    };
+    if !lent.fixed_six() {
         return Err(Refusal::NotFixedSix);
     }
-    if !rows_fine(sorts, sort_count, entry_count) {
+    if !lent.rows_fine() {
         return Err(Refusal::BadSort);
     }
-    if !no_two_equal_rows(sorts, sort_count) {
+    if !lent.no_two_equal_rows() {
         return Err(Refusal::EqualSorts);
     }
     Ok(())

@@ -53,11 +53,16 @@ module _ (kind : ℕ) (part : SortId) (args : List SortId) where
         unfolding intern_row
         no_room_for_entries l = rw (was_not_found _ _ o e none, lt-ltb k.sorts 1024 h, length_sort_numbers args, lt-leb (k.entries + length args) 4096 l)
 
-        pub interned_new : k.entries + length args ≤ 4096 → (vs : List ℕ) → vs ≡ append_row ws k.sorts k.entries row
+        stored_new : k.entries + length args ≤ 4096 → (vs : List ℕ) → vs ≡ append_row ws k.sorts k.entries row
             → stored_at vs (At (record { 0 = k.sorts }) (record { sorts = k.sorts + 1; entries = k.entries + length args }))
             ≡ intern_row ws k.sorts k.entries row
         unfolding intern_row
-        interned_new l vs a = rw (was_not_found _ _ o e none, lt-ltb k.sorts 1024 h, length_sort_numbers args, le-leb (k.entries + length args) 4096 l, a)
+        stored_new l vs a = rw (was_not_found _ _ o e none, lt-ltb k.sorts 1024 h, length_sort_numbers args, le-leb (k.entries + length args) 4096 l, a)
+
+        pub interned_new : k.entries + length args ≤ 4096 → (vs : List ℕ) → vs ≡ append_row ws k.sorts k.entries row
+            → (n : Counts) → n ≡ record { sorts = k.sorts + 1; entries = k.entries + length args }
+            → (id : SortId) → id.0 ≡ k.sorts → interned_at vs n (Ok id) ≡ intern_row ws k.sorts k.entries row
+        interned_new l vs a n en id ei = (λ i. stored_at vs (At (record { 0 = ei i }) (en i))) ∙ stored_new l vs a
 
 -- what the lent words end as is what the interner held last
 pub stored_in : {us vs : List ℕ} {r : Joined} {s : Stored} → vs ≡ us → stored_at us r ≡ s → stored_at vs r ≡ s

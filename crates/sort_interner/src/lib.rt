@@ -99,12 +99,11 @@ pub fn get(sorts: &[u16], id: SortId) -> ResolvedSort
     row_of(kind, part, Run { start, count })
 }
 
-// The kind word of a container. Two operators never share one.
-#[tactic(auto, unfolding(resolved_sort::specs::Storage::kind_op))]
+// The kind word of a container, for callers that do not say `u16::from`.
 pub fn kind_of_op(op: ComplexSort) -> u16
     ensures { result ≡ kind_op op }
 {
-    FIRST_CONTAINER + (op as u16)
+    u16::from(op)
 }
 
 // What 15 leaves: zero past the n rows and e entries that the call began with, and these as they are.
@@ -183,7 +182,7 @@ pub fn same_rows(sorts: &[u16], lhs: SortId, rhs: SortId) -> bool
 }
 
 // Whether a run has these sorts as its entries, and no more.
-// kept: beside same_run, since these sorts are a slice and no run of the lent words.
+// kept: beside same_run: one function over a closure for the k-th entry needs a longer contract than both have code.
 fn has_args(words: &[u16], run: Run, args: &[SortId]) -> bool
     ensures { result ≡ same_words (entries_of words.now run.start run.count) (sort_numbers args.now) }
 {
@@ -220,7 +219,7 @@ pub fn put_row(sorts: &mut [u16], i: u16, kind: u16, part: u16, start: u16, coun
 }
 
 // The first n of the ids stored as the entries from e on. The rest of the ids is not stored.
-// kept: beside put_sorts, since these are places and no sorts.
+// kept: beside put_sorts, since these are places: one loop over both needs a trait for the word that each of them is.
 pub fn put_args(sorts: &mut [u16], e: u16, ids: [u16; ARGUMENT_WORDS], n: u16)
     requires { n ≤ max_arguments }
     ensures { sorts.new ≡ sets sorts.old (entries_at + e) (take n ids) }
@@ -249,24 +248,6 @@ pub fn start_of(kind: u16, e: u16) -> u16
     ensures { result ≡ cond (eqb kind function_kind) e 0 }
 {
     if kind == FUNCTION_KIND { e } else { 0 }
-}
-
-// A row with its arguments appended to n rows and e entries. Only a function's row names a start; of others it is 0.
-fn append_row(words: &mut [u16], counts: Counts, row: &Row)
-    requires { length row.now.args.now ≤ max_arguments }
-    ensures { words.new
-        ≡ append_row words.old counts.sorts counts.entries
-        (given_row row.now.kind row.now.part row.now.args.now) }
-{
-    put_row(
-        words,
-        counts.sorts,
-        row.kind,
-        row.part.0,
-        start_of(row.kind, counts.entries),
-        row.args.len() as u16,
-    );
-    put_sorts(words, counts.entries, row.args);
 }
 
 impl<'a> Sorts<'a> {
@@ -335,6 +316,34 @@ impl<'a> SortInterner<'a> {
         entry(self.words, domain, k)
     }
 
+    // A row appended where there is room, and its number. Only a function's row names a start; of others it is 0.
+    fn append_row(&mut self, row: &Row) -> SortId
+        requires { (self.old.counts.sorts < max_sorts)
+            × (length row.now.args.now ≤ max_arguments)
+            × (self.old.counts.entries + length row.now.args.now ≤ max_entries) }
+        ensures same_reference { self.new.words.ghost_name ≡ self.old.words.ghost_name }
+        ensures words { self.new.words.now
+            ≡ append_row self.old.words.now self.old.counts.sorts self.old.counts.entries
+            (given_row row.now.kind row.now.part row.now.args.now) }
+        ensures counts { self.new.counts
+            ≡ record {
+              sorts = self.old.counts.sorts + 1;
+              entries = self.old.counts.entries + length row.now.args.now;
+            } }
+        ensures number { result.0 ≡ self.old.counts.sorts }
+    {
+        let Counts { sorts, entries } = self.counts;
+        let count = row.args.len() as u16;
+        let start = start_of(row.kind, entries);
+        put_row(self.words, sorts, row.kind, row.part.0, start, count);
+        put_sorts(self.words, entries, row.args);
+        self.counts = Counts {
+            sorts: sorts + 1,
+            entries: entries + count,
+        };
+        SortId(sorts)
+    }
+
     // The row's number: the first row that is the same, else one more row where there is room. Nothing changes where
     // the row is found or there is no room.
     // Each distinct sort is stored once, so that equality of sorts is that of their numbers. The six that merc interns
@@ -346,20 +355,14 @@ impl<'a> SortInterner<'a> {
             ≡ intern_row self.old.words.now self.old.counts.sorts self.old.counts.entries
             (given_row row.now.kind row.now.part row.now.args.now) }
     {
-        let Counts { sorts, entries } = self.counts;
         if let Some(id) = self.find_row(row) {
             return Ok(id);
         }
-        let count = row.args.len() as u16;
-        if SORT_NUMBERS <= sorts || MAX_ENTRIES < (entries as usize) + (count as usize) {
+        let Counts { sorts, entries } = self.counts;
+        if SORT_NUMBERS <= sorts || MAX_ENTRIES < (entries as usize) + row.args.len() {
             return Err(NoRoom);
         }
-        append_row(self.words, self.counts, row);
-        self.counts = Counts {
-            sorts: sorts + 1,
-            entries: entries + count,
-        };
-        Ok(SortId(sorts))
+        Ok(self.append_row(row))
     }
 
     // Interns the container sort `op(subsort)`.
@@ -372,7 +375,7 @@ impl<'a> SortInterner<'a> {
             (container op (look (trees self.old.words.now self.old.counts.sorts) subsort.0)) }
     {
         self.intern(&Row {
-            kind: kind_of_op(op),
+            kind: u16::from(op),
             part: subsort,
             args: &[],
         })

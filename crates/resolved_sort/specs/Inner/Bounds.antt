@@ -1,4 +1,5 @@
--- What only contracts of inner functions cite, beside `specs/Bounds.antt`.
+-- Join and meet of containers and of functions of a list, part by part, as the laws speak of them: beside
+-- `specs/Bounds.antt`.
 use Rattle.std.specs.Prelude.{Bool, not, List, ◌≡◌, ℕ, ◌+◌, ◌-◌, replicate}
 use Rattle.std.proofs.lemmas.List.Edits.{sets}
 use Rattle.resolved_sort.specs.declared.SortId.{SortId}

@@ -9,7 +9,8 @@ use Rattle.resolved_sort.specs.declared.ResolvedSort.TheVariants.{Unit, Primitiv
 use Rattle.resolved_sort.specs.declared.ResolvedSort.TheVariants.{TypeVar}
 use Rattle.resolved_sort.specs.Storage.{row_at}
 
--- Of two functions with as many arguments: how many, where the domains start, and what the ranges are.
+-- Two rows of one form side by side. Functions have as many arguments on both sides: how many, where each domain starts,
+-- and what each range is.
 pub data Pair : Type 0 where
   Primitives : Sort → Sort → Pair
   Containers : ComplexSort → SortId → ComplexSort → SortId → Pair

@@ -9,4 +9,4 @@ unfolding sort_numbers
 returns-clause-interned c =
     let s = c.args.self.now in
     let p = c.requires in
-    rw c.kind_of_op.ensures at c.intern.ensures.interned ∙ law.generic_interns s.words.now s.counts p.0 c.args.op c.args.subsort.0 p.1
+    rw c.from.ensures at c.intern.ensures.interned ∙ law.generic_interns s.words.now s.counts p.0 c.args.op c.args.subsort.0 p.1

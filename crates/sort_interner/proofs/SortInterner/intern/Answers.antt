@@ -1,7 +1,7 @@
 -- The row is found, there is no room, or it is appended. Assumes nothing.
 use Rattle.sort_interner.proofs.Interned as law
 use Rattle.sort_interner.proofs.SortInterner.intern.Goals as goal
-use Rattle.sort_interner.proofs.SortInterner.intern.Goals.{then-sorts-ge-SORT_NUMBERS-via-then-sorts-ge-SORT_NUMBERS, then-sorts-ge-SORT_NUMBERS-via-else-sorts-ge-SORT_NUMBERS+then-entries-count-gt-MAX_ENTRIES}
+use Rattle.sort_interner.proofs.SortInterner.intern.Goals.{then-sorts-ge-SORT_NUMBERS-via-then-sorts-ge-SORT_NUMBERS, then-sorts-ge-SORT_NUMBERS-via-else-sorts-ge-SORT_NUMBERS+then-entries-row-gt-MAX_ENTRIES}
 
 pub returns-in-Some-clause-interned : goal.returns-in-Some-clause-interned
 returns-in-Some-clause-interned c =
@@ -16,9 +16,9 @@ returns-then-sorts-ge-SORT_NUMBERS-clause-interned c =
       | then-sorts-ge-SORT_NUMBERS-via-then-sorts-ge-SORT_NUMBERS w ↦
           law.no_room_for_rows r.kind r.part r.args.now s.words.now s.counts _ c.find_row.ensures c.in_default.is
           w.if-sorts-ge-SORT_NUMBERS.true
-      | then-sorts-ge-SORT_NUMBERS-via-else-sorts-ge-SORT_NUMBERS+then-entries-count-gt-MAX_ENTRIES w ↦
+      | then-sorts-ge-SORT_NUMBERS-via-else-sorts-ge-SORT_NUMBERS+then-entries-row-gt-MAX_ENTRIES w ↦
           law.no_room_for_entries r.kind r.part r.args.now s.words.now s.counts _ c.find_row.ensures c.in_default.is
-          w.if-sorts-ge-SORT_NUMBERS.false w.if-entries-count-gt-MAX_ENTRIES.true
+          w.if-sorts-ge-SORT_NUMBERS.false w.if-entries-row-gt-MAX_ENTRIES.true
     ]
 
 pub returns-clause-interned : goal.returns-clause-interned
@@ -26,4 +26,5 @@ returns-clause-interned c =
     let r = c.args.row.now in
     let s = c.args.self.now in
     law.interned_new r.kind r.part r.args.now s.words.now s.counts _ c.find_row.ensures c.in_default.is
-    c.if-sorts-ge-SORT_NUMBERS.false c.if-entries-count-gt-MAX_ENTRIES.false _ c.append_row.ensures
+    c.if-sorts-ge-SORT_NUMBERS.false c.if-entries-row-gt-MAX_ENTRIES.false _ c.append_row.ensures.words _ c.append_row.ensures.counts _
+    c.append_row.ensures.number

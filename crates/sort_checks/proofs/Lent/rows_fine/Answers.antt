@@ -1,9 +1,9 @@
 -- What `all` ran is what the definition tests. Assumes nothing.
 use Rattle.std.proofs.Common.{of_calls, refl}
-use Rattle.sort_checks.specs.Inner.Tests.{no_same_rows}
+use Rattle.resolved_sort.specs.Checks.{rows_fine}
 use Rattle.resolved_sort.proofs.ByAll.{all_below_by_all}
-use Rattle.sort_checks.proofs.no_two_equal_rows.Goals as goal
+use Rattle.sort_checks.proofs.Lent.rows_fine.Goals as goal
 
 pub returns : goal.returns
-unfolding no_same_rows
+unfolding rows_fine
 returns c = all_below_by_all _ _ _ _ _ refl c.all.ensures.ran (λ x b q k. search of_calls)

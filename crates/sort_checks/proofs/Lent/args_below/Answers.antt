@@ -2,7 +2,7 @@
 use Rattle.std.proofs.Common.{of_calls, refl}
 use Rattle.sort_checks.specs.Inner.Tests.{arg_below}
 use Rattle.resolved_sort.proofs.ByAll.{all_below_by_all}
-use Rattle.sort_checks.proofs.args_below.Goals as goal
+use Rattle.sort_checks.proofs.Lent.args_below.Goals as goal
 
 pub returns : goal.returns
 unfolding arg_below

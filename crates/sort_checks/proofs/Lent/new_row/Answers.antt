@@ -2,7 +2,7 @@
 use Rattle.std.proofs.Common.{of_calls, refl}
 use Rattle.sort_checks.specs.Inner.Tests.{new_row, other_row}
 use Rattle.resolved_sort.proofs.ByAll.{all_below_by_all}
-use Rattle.sort_checks.proofs.new_row.Goals as goal
+use Rattle.sort_checks.proofs.Lent.new_row.Goals as goal
 
 pub returns : goal.returns
 unfolding new_row other_row
