@@ -122,6 +122,14 @@ def constant(tokens):
     return all(re.match(r"\d|b?['\"]|[A-Z]|::$|[|(),&_]$|-$|Some$|None$", t) for t in tokens)
 
 
+def converts(f):
+    """Whether a body is one match from constants to constants."""
+    if f.tokens[1:2] != ["match"]:
+        return False
+    _, cases = arms(f.tokens, 1)
+    return len(cases) > 2 and all(constant(p) and constant(b) for p, b in cases if p != ["_"])
+
+
 def count(commit):
     tree = source.files(commit)
     rows = collections.defaultdict(list)
@@ -195,7 +203,8 @@ def points_1(rows, functions, enums, structs, constants):
 
 
 def point_2(rows, functions, enums, structs):
-    large = [f for f in functions if len(f.tokens) >= 20]
+    # a match from constants to constants is of point 4: all of these have one shape
+    large = [f for f in functions if len(f.tokens) >= 20 and not converts(f)]
     shapes = [(f.name, shape(f.tokens, False), shape(f.tokens, True)) for f in large]
     for (one, a, near_a), (other, b, near_b) in itertools.combinations(shapes, 2):
         if a == b:
@@ -228,11 +237,8 @@ def points_3_4(rows, functions, tree):
                 if any(part[1:] in (["+", "1"], ["-", "1"]) for part in split(inside)):
                     rows["+3 functions that call themselves with a counted argument"].append(f.name)
                     break
-        # bodies that are one match from constants to constants
-        if f.tokens[1:2] == ["match"]:
-            on, cases = arms(f.tokens, 1)
-            if len(cases) > 2 and all(constant(p) and constant(b) for p, b in cases if p != ["_"]):
-                rows["4 comparing, converting and printing by hand"].append(f"{f.name} is a match from constants to constants")
+        if converts(f):
+            rows["4 comparing, converting and printing by hand"].append(f"{f.name} is a match from constants to constants")
         kinds = [t for _, t in f.parameters]
         if f.result == "bool" and len(kinds) == 2 and kinds[0] == kinds[1] and "==" in f.tokens:
             rows["4 comparing, converting and printing by hand"].append(f"{f.name} compares two of one type")
