@@ -45,7 +45,7 @@ def things(tree, named):
                 if not item.public and not (item.name == "main" and parts[3] == "main.rt"):
                     continue
                 key = f"{parts[1]}::{module}" + (f"{item.place}::" if item.place else "") + item.name
-                kind = {"fn": "functions", "const": "constants", "trait": "traits"}.get(item.kind, "types")
+                kind = {"fn": "functions", "const": "constants", "trait": "traits", "impl": "traits"}.get(item.kind, "types")
                 if not (item.kind == "fn" and ("traits", f"{parts[1]}::{module}{item.place}") in found):
                     add(parts[1], kind, key, item.head)
         elif path.endswith(".antt"):
@@ -143,12 +143,22 @@ def headed(text, why):
 PAGE = """# Old and new, side by side
 
 What `python3 tools/side_by_side.py` prints, of {old} and of {new}:
-by crate each public function or method with its clauses, each public type (with its ghost fields), trait and constant, each definition of specs/,
+by crate each public function or method with its clauses, each public type (with its ghost fields), trait (with what impls say for its ghost items) and constant, each definition of specs/,
 and each law of proofs/ that README or docs/ name, where it differs. A line with - is the old text, one with + the new, one with neither stands in
 both; of more than six such lines in a row only the ends are shown. Comments, attributes and bodies of functions are left out, and so is what differs
 in layout alone or by a comma or semicolon before a closing bracket; nothing else is. A law is a statement, with the modules around it, and no proof.
 What took the place of another name is told by the name itself or by tools/moved.tsv. docs/DESIGN-PASS.md says the reasons by crate.
+
+Names exported for C: {exports}.
 """
+
+
+def exports(old, new):
+    """Whether the functions with an exported name are the same, by crate."""
+    was, now = ({(path.split("/")[1], name) for path, text in tree.items() if path.endswith(".rt")
+                 for name in re.findall(r"no_mangle[^\n]*\n(?:\s*#\[[^\n]*\n)*[^\n]*\bfn (\w+)", text)} for tree in (old, new))
+    left = [f"{crate}::{name} {what}" for what, some in (("went", was - now), ("came", now - was)) for crate, name in sorted(some)]
+    return f"{len(was)}, the same ones" if not left else ", ".join(left)
 
 
 def elsewhere(old, new):
@@ -180,7 +190,7 @@ def main(words):
         print("\n".join(f"{thing.kind} {thing.key}" for thing, to, names, why in pairs if not to and not why))
         return
     new_commit = words[1] if len(words) > 1 else "the files as they are"
-    print(PAGE.format(old=words[0] if words else first, new=new_commit))
+    print(PAGE.format(old=words[0] if words else first, new=new_commit, exports=exports(*trees)))
     elsewhere(*trees)
     for crate in source.crates(trees[1]):
         print(f"## {crate}\n")

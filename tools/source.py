@@ -94,7 +94,7 @@ def laid(text):
 
 
 def items(text):
-    """Functions, structs, enums, constants and traits of a source file, outside of tests."""
+    """Functions, structs, enums, constants, traits and ghost items of impls of a source file, outside of tests."""
     plain = blanked(text, {"comment"})
     bare = blanked(text, {"comment", "text"})
     return list(items_within(bare, plain, 0, len(bare), "", False))
@@ -138,6 +138,11 @@ def items_within(bare, plain, at, end, place, shown):
             if kind == "trait":
                 of = name
                 yield Item(kind, name, place, public, laid(plain[start:at]), "", plain[start:at])
+            elif " for " in of:
+                # what the impl says for the trait's ghost items
+                ghosts = [laid(plain[g.start():closing(bare, g.end() - 1)]) for g in re.compile(r"\bghost [\w']+ = \{").finditer(bare, stop, at)]
+                if ghosts:
+                    yield Item("impl", of, place, True, "\n".join([f"impl {of}"] + ["    " + ghost for ghost in ghosts]), "", "")
             yield from items_within(bare, plain, stop + 1, at - 1, of, public if kind == "trait" else " for " in of)
 
 
