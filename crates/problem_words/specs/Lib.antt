@@ -1,2 +1,3 @@
--- A problem in words: what a caller gives, and what is packed.
+-- A problem in words: the kinds of its rows, what a caller gives, and what is packed.
+pub mod Kinds
 pub mod Inner

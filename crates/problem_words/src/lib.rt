@@ -5,6 +5,7 @@
 ghost use Rattle.std.specs.Prelude.{◌≡◌, ◌+◌, drop};
 ghost use Rattle.inference.specs.Constraints.{overload_at, lit_kind, target, constraint, constraint_at};
 ghost use Rattle.search_state.specs.Inner.Memory.{overloads_at, source_at, problem_in};
+ghost use Rattle.problem_words.specs.Kinds.{kind_of};
 ghost use Rattle.problem_words.specs.Inner.Packed.{problem_from, Packable};
 
 use inference::{CONSTRAINT_WORDS, Constraint, ExprId, LitKind, NameTarget, OVERLOAD_WORDS};
@@ -12,6 +13,37 @@ use resolved_sort::{Run, SortId};
 use search_state::{EXPRS_AT, OVERLOADS_AT, SOURCES_AT, Sizes};
 use unification::InferSortId;
 use words::{copy, word};
+
+// The kinds of constraints, by the first word of a row.
+#[derive(Clone, Copy, Debug, PartialEq, Eq)]
+pub enum ConstraintKind {
+    Sub,
+    Lit,
+    Disjunction,
+    Comprehension,
+    Join,
+}
+
+// A word that is no kind of constraint.
+#[derive(Clone, Copy, Debug, PartialEq, Eq)]
+pub struct UnknownKind(pub u16);
+
+impl TryFrom<u16> for ConstraintKind {
+    type Error = UnknownKind;
+
+    ghost try_from_gives = { λ word kind. kind ≡ kind_of word };
+
+    fn try_from(word: u16) -> Result<Self, UnknownKind> {
+        match word {
+            0 => Ok(ConstraintKind::Sub),
+            1 => Ok(ConstraintKind::Lit),
+            2 => Ok(ConstraintKind::Disjunction),
+            3 => Ok(ConstraintKind::Comprehension),
+            4 => Ok(ConstraintKind::Join),
+            _ => Err(UnknownKind(word)),
+        }
+    }
+}
 
 // Packs the lists of a problem: constraints, overloads, sources and places of expressions, each at its ceiling.
 pub fn pack(
@@ -63,49 +95,47 @@ pub fn overload_place(lists: &[u16], i: u16) -> InferSortId
 fn lit_kind(kind: u16) -> LitKind
     ensures { result ≡ lit_kind kind }
 {
-    if kind == 0 {
-        return LitKind::Positive;
+    match kind {
+        0 => LitKind::Positive,
+        _ => LitKind::Natural,
     }
-    LitKind::Natural
 }
 
 // What a name stands for. Every kind but 1 and 2 says built-in: that it is 3 is for checks 8 and 9 to show.
 pub fn name_target(kind: u16, sort: u16) -> NameTarget
     ensures { result ≡ target kind sort }
 {
-    if kind == 1 {
-        return NameTarget::Variable;
+    match kind {
+        1 => NameTarget::Variable,
+        2 => NameTarget::Op(SortId(sort)),
+        _ => NameTarget::Builtin,
     }
-    if kind == 2 {
-        return NameTarget::Op(SortId(sort));
-    }
-    NameTarget::Builtin
 }
 
-// What the words of a constraint say. Every kind above 3 says Join: that it is 4 is check 9's to show.
+// What the words of a constraint say. A word that is no kind says Join: that it is a kind is check 9's to show.
 fn constraint_of(kind: u16, a: u16, b: u16, c: u16, d: u16) -> Constraint
     ensures { result ≡ constraint kind a b c d }
 {
-    match kind {
-        0 => Constraint::Sub {
+    match ConstraintKind::try_from(kind).unwrap_or(ConstraintKind::Join) {
+        ConstraintKind::Sub => Constraint::Sub {
             lhs: InferSortId(a),
             rhs: InferSortId(b),
         },
-        1 => Constraint::Lit {
+        ConstraintKind::Lit => Constraint::Lit {
             sort: InferSortId(a),
             kind: lit_kind(b),
         },
-        2 => Constraint::Disjunction {
+        ConstraintKind::Disjunction => Constraint::Disjunction {
             expr: ExprId(a),
             sort: InferSortId(b),
             disjuncts: Run { start: c, count: d },
         },
-        3 => Constraint::Comprehension {
+        ConstraintKind::Comprehension => Constraint::Comprehension {
             body: InferSortId(a),
             node: InferSortId(b),
             element: SortId(c),
         },
-        _ => Constraint::Join {
+        ConstraintKind::Join => Constraint::Join {
             sources: Run { start: b, count: c },
             target: InferSortId(a),
         },

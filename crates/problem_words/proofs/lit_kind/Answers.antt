@@ -1,13 +1,13 @@
--- By the test of the kind. Assumes nothing.
+-- By the kind. Assumes nothing.
 use Rattle.inference.specs.Constraints.{lit_kind}
-use Rattle.std.proofs.Common.{sym}
+use Rattle.std.proofs.Common.{arith, sym}
 use Rattle.std.proofs.lemmas.Bool.{ne_eqb}
 use Rattle.problem_words.proofs.lit_kind.Goals as goal
 
-pub returns-then-kind-eq0 : goal.returns-then-kind-eq0
+pub returns-in-0 : goal.returns-in-0
 unfolding lit_kind
-returns-then-kind-eq0 c = sym (rw c.if-kind-eq0.true)
+returns-in-0 c = sym (rw c.in-0.is)
 
-pub returns : goal.returns
+pub returns-in_default : goal.returns-in_default
 unfolding lit_kind
-returns c = sym (rw (ne_eqb _ 0 c.if-kind-eq0.false))
+returns-in_default c = sym (rw (ne_eqb c.args.kind 0 (λ e. omega (arith, e))))

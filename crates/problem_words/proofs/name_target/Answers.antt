@@ -1,17 +1,18 @@
--- By the tests of the kind. Assumes nothing.
+-- By the kind. Assumes nothing.
 use Rattle.inference.specs.Constraints.{target}
-use Rattle.std.proofs.Common.{sym}
+use Rattle.std.proofs.Common.{arith, sym}
 use Rattle.std.proofs.lemmas.Bool.{ne_eqb}
 use Rattle.problem_words.proofs.name_target.Goals as goal
 
-pub returns-then-kind-eq1 : goal.returns-then-kind-eq1
+pub returns-in-1 : goal.returns-in-1
 unfolding target
-returns-then-kind-eq1 c = sym (rw c.if-kind-eq1.true)
+returns-in-1 c = sym (rw c.in-1.is)
 
-pub returns-then-kind-eq2 : goal.returns-then-kind-eq2
+pub returns-in-2 : goal.returns-in-2
 unfolding target
-returns-then-kind-eq2 c = sym (rw c.if-kind-eq2.true)
+returns-in-2 c = sym (rw c.in-2.is)
 
-pub returns : goal.returns
+pub returns-in_default : goal.returns-in_default
 unfolding target
-returns c = sym (rw (ne_eqb _ 1 c.if-kind-eq1.false, ne_eqb _ 2 c.if-kind-eq2.false))
+returns-in_default c =
+    sym (rw (ne_eqb c.args.kind 1 (λ e. omega (arith, e)), ne_eqb c.args.kind 2 (λ e. omega (arith, e))))
