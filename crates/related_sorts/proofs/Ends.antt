@@ -23,9 +23,6 @@ use Rattle.unification.specs.declared.InferSortId.{InferSortId}
 use Rattle.unification.specs.declared.SortVar.{SortVar}
 use Rattle.unification.specs.declared.InferSort.{InferSort}
 use Rattle.unification.specs.declared.InferSort.TheVariants.{Generic, Function, Var}
-use Rattle.unification.specs.declared.Three.{Three}
-use Rattle.unification.specs.declared.Related.{Related}
-use Rattle.unification.specs.declared.Related.TheVariants.{These, NoList}
 use Rattle.unification.specs.Term.{Head, flat_head, container_head, function_head, Shape, variable, over}
 use Rattle.unification.specs.Inner.Term.{parts_of}
 use Rattle.unification.specs.Nodes.{is_sort, node_entries_of, node_at, sort_shape, node_shape, Binds, binds_of}
@@ -47,14 +44,14 @@ use Rattle.unification.proofs.Rows.{ShapeFormed, variable_formed, flat_formed, c
 use Rattle.infer_nodes.specs.Inner.Parts.{NodesReady}
 use Rattle.infer_nodes.proofs.Shapes.{at_sort, shape_of_node}
 use Rattle.infer_nodes.proofs.Ways as ways
-use Rattle.related_sorts.specs.Inner.Outcome.{no_places, AreThese, IsFunction, FunctionAt, Relates}
+use Rattle.related_sorts.specs.declared.listing.Listed.{Listed}
+use Rattle.related_sorts.specs.Listed.{places}
+use Rattle.related_sorts.specs.Inner.Outcome.{IsFunction, FunctionAt}
 use Rattle.related_sorts.specs.Inner.Ranges.{related_head}
-use Rattle.related_sorts.proofs.Laws.{relates_as, no_places_lem}
 
 -- a place under another name
-pub head_of_the_same : (ws ns : List ℕ) (k : Lengths) (up : Bool) (p q : ℕ) → p ≡ q → (vs ms : List ℕ) (b : Related)
-    → Relates vs ms b (related_head up p (lent ws ns k)) → Relates vs ms b (related_head up q (lent ws ns k))
-head_of_the_same ws ns k up p q e vs ms b u = relates_as vs ms b u (ap (λ (x : ℕ). related_head up x (lent ws ns k)) e)
+pub head_of_the_same : (W : Lent) (up : Bool) (p q : ℕ) → p ≡ q → {O : Makes (List ℕ)} → O ≡ related_head up p W → O ≡ related_head up q W
+head_of_the_same W up p q e u = u ∙ ap (λ (x : ℕ). related_head up x W) e
 
 -- by the head
 module _ (ws ns : List ℕ) (k : Lengths) (q : NodesReady ws ns k) (up : Bool) (p : ℕ) (i : Placed k p) where
@@ -75,28 +72,19 @@ module _ (ws ns : List ℕ) (k : Lengths) (q : NodesReady ws ns k) (up : Bool) (
     sort_is : (y : ResolvedSort) → r ≡ y → graph_of ws ns k p ≡ sort_shape ws y
     sort_is y e = at_sort ws ns k q p i l ∙ ap (sort_shape ws) (sym j ∙ e)
 
-    module _ (b : Related) (y : b ≡ These no_places k) where
-      pub unit_has_none : r ≡ UnitRow → Relates ws ns b head
+    module _ (c : Listed) (y : places c ≡ []) where
+      none_listed : made (places c) L ≡ made [] L
+      none_listed = ap (λ (ps : List ℕ). made ps L) y
+
+      pub plain_has_none : (r ≡ UnitRow) ⊎ (((n : ℕ) × (r ≡ Def n)) ⊎ ((n : ℕ) × (r ≡ TypeVar n))) → made (places c) L ≡ head
       unfolding sort_shape
-      unit_has_none e = relates_as ws ns b (no_places_lem ws ns k b y) (by_shape (over (flat_head unit) []) (sort_is UnitRow e))
+      plain_has_none (inl e) = none_listed ∙ by_shape (over (flat_head unit) []) (sort_is UnitRow e)
+      plain_has_none (inr (inl e)) = none_listed ∙ by_shape (over (flat_head (def e.0)) []) (sort_is (Def e.0) e.1)
+      plain_has_none (inr (inr e)) = none_listed ∙ by_shape (over (flat_head (typevar e.0)) []) (sort_is (TypeVar e.0) e.1)
 
-      pub def_has_none : (n : ℕ) → r ≡ Def n → Relates ws ns b head
-      unfolding sort_shape
-      def_has_none n e = relates_as ws ns b (no_places_lem ws ns k b y) (by_shape (over (flat_head (def n)) []) (sort_is (Def n) e))
-
-      pub typevar_has_none : (n : ℕ) → r ≡ TypeVar n → Relates ws ns b head
-      unfolding sort_shape
-      typevar_has_none n e = relates_as ws ns b (no_places_lem ws ns k b y) (by_shape (over (flat_head (typevar n)) []) (sort_is (TypeVar n) e))
-
-    pub plain_has_none : (r ≡ UnitRow) ⊎ (((n : ℕ) × (r ≡ Def n)) ⊎ ((n : ℕ) × (r ≡ TypeVar n))) → (t : Three) → t ≡ no_places → Relates ws ns (These t k) head
-    plain_has_none (inl e) t y = unit_has_none (These t k) (ap (λ (x : Three). These x k) y) e
-    plain_has_none (inr (inl e)) t y = def_has_none (These t k) (ap (λ (x : Three). These x k) y) e.0 e.1
-    plain_has_none (inr (inr e)) t y = typevar_has_none (These t k) (ap (λ (x : Three). These x k) y) e.0 e.1
-
-    pub numbers_related : (s : Sort) → r ≡ Primitive s → (t : Three) → AreThese t (related_places up (primitive s)) → Relates ws ns (These t k) head
+    pub numbers_related : (s : Sort) → r ≡ Primitive s → (c : Listed) → places c ≡ related_places up (primitive s) → made (places c) L ≡ head
     unfolding sort_shape
-    numbers_related s e t a =
-        record { says = ap (λ (xs : List ℕ). made xs L) a.says ∙ by_shape (over (flat_head (primitive s)) []) (sort_is (Primitive s) e); few = a.few }
+    numbers_related s e c a = ap (λ (xs : List ℕ). made xs L) a ∙ by_shape (over (flat_head (primitive s)) []) (sort_is (Primitive s) e)
 
     module _ (o : ComplexSort) (s : SortId) (e : r ≡ Container o s) where
       container_is : graph_of ws ns k p ≡ over (container_head o) (s.0 ∷ [])
@@ -106,42 +94,33 @@ module _ (ws ns : List ℕ) (k : Lengths) (q : NodesReady ws ns k) (up : Bool) (
       pub container_asked : Checked ws k.sorts k.entries × (s.0 < k.sorts)
       container_asked = (q.sorts, sort_part_below L q p s.0 (container_head o) (s.0 ∷ []) (lt-ltb p max_sorts l) i container_is (first []))
 
-      pub container_related : (vs ms : List ℕ) (b : Related) → Relates vs ms b (related_over (related_container up o) true s.0 L) → Relates vs ms b head
-      container_related vs ms b u =
-          relates_as vs ms b u (ap (λ (c : Bool). related_over (related_container up o) c s.0 L) (sym (lt-ltb p max_sorts l))
-          ∙ by_shape (over (container_head o) (s.0 ∷ [])) container_is)
+      pub container_related : related_over (related_container up o) true s.0 L ≡ head
+      container_related =
+          ap (λ (c : Bool). related_over (related_container up o) c s.0 L) (sym (lt-ltb p max_sorts l))
+          ∙ by_shape (over (container_head o) (s.0 ∷ [])) container_is
 
-    pub function_sort_passed : (d : Run) (g : SortId) → r ≡ SortFunction d g → Relates ws ns (NoList k) head
+    pub function_sort_passed : (d : Run) (g : SortId) → r ≡ SortFunction d g → no_list L ≡ head
     unfolding sort_shape
-    function_sort_passed d g e =
-        record {
-          says = by_shape (over (function_head d.count) (entries_of ws d.start d.count ++ (g.0 ∷ []))) (sort_is (SortFunction d g) e);
-          few = tt;
-        }
+    function_sort_passed d g e = by_shape (over (function_head d.count) (entries_of ws d.start d.count ++ (g.0 ∷ []))) (sort_is (SortFunction d g) e)
 
   -- a node
   module _ (l : max_sorts ≤ p) (r : InferSort) (j : r ≡ node_at ns (p - max_sorts)) where
     node_is : (y : InferSort) → r ≡ y → graph_of ws ns k p ≡ node_shape ns y
     node_is y e = shape_of_node ws ns k q p i l r j ∙ ap (node_shape ns) e
 
-    pub node_container_related : (o : ComplexSort) (s : InferSortId) → r ≡ Generic o s → (vs ms : List ℕ) (b : Related)
-        → Relates vs ms b (related_over (related_container up o) false s.0 L) → Relates vs ms b head
+    pub node_container_related : (o : ComplexSort) (s : InferSortId) → r ≡ Generic o s → related_over (related_container up o) false s.0 L ≡ head
     unfolding node_shape
-    node_container_related o s e vs ms b u =
-        relates_as vs ms b u (ap (λ (c : Bool). related_over (related_container up o) c s.0 L) (sym (le-ltb p max_sorts l))
-        ∙ by_shape (over (container_head o) (s.0 ∷ [])) (node_is (Generic o s) e))
+    node_container_related o s e =
+        ap (λ (c : Bool). related_over (related_container up o) c s.0 L) (sym (le-ltb p max_sorts l))
+        ∙ by_shape (over (container_head o) (s.0 ∷ [])) (node_is (Generic o s) e)
 
-    pub function_node_passed : (d : Run) (g : InferSortId) → r ≡ Function d g → Relates ws ns (NoList k) head
+    pub function_node_passed : (d : Run) (g : InferSortId) → r ≡ Function d g → no_list L ≡ head
     unfolding node_shape
-    function_node_passed d g e =
-        record {
-          says = by_shape (over (function_head d.count) (node_entries_of ns d.start d.count ++ (g.0 ∷ []))) (node_is (Function d g) e);
-          few = tt;
-        }
+    function_node_passed d g e = by_shape (over (function_head d.count) (node_entries_of ns d.start d.count ++ (g.0 ∷ []))) (node_is (Function d g) e)
 
-    pub variable_has_no_list : (v : SortVar) → r ≡ Var v → Relates ws ns (NoList k) head
+    pub variable_has_no_list : (v : SortVar) → r ≡ Var v → no_list L ≡ head
     unfolding node_shape
-    variable_has_no_list v e = record { says = by_shape (variable v.0) (node_is (Var v) e); few = tt }
+    variable_has_no_list v e = by_shape (variable v.0) (node_is (Var v) e)
 
 -- a function has at most 16 arguments
 few_arguments : (s : Shape) → ShapeFormed s → (n : ℕ) (ps : List ℕ) → s ≡ over (function_head n) ps → n ≤ 16

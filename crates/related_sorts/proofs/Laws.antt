@@ -1,13 +1,13 @@
 -- What the definition makes, as the code meets it. Assumes nothing.
 use mathlib.Core.Path.{◌≡◌, refl, ap, ap₂, sym, ◌∙◌, subst}
-use mathlib.Core.List.{List, [], ◌∷◌, ◌++◌}
+use mathlib.Core.List.{List, [], ◌∷◌, ◌++◌, append_assoc, append-nil}
 use mathlib.Core.Option.{Option, none, some}
 use mathlib.Core.Bool.{Bool, true, false, cond}
-use Prim.Native.Nat.{ℕ, zero, suc, ◌+◌, ◌-◌, ◌<◌, ◌≤◌}
+use Prim.Native.Nat.{ℕ, suc, ◌+◌, ◌<◌, ◌≤◌}
 use native.Mathlib.Omega.{arith}
 use native.Mathlib.Numerals.{add-one}
-use lib.ListN.{length, get_or, set, take}
-use lib.Seq.{sets, take-suc, take-suc-set}
+use lib.ListN.{length, get_or, set, take, drop, length-set, drop_of_length-le}
+use lib.Seq.{sets, take-suc, take-suc-set, drop-cons, get_or-take, length-take-le}
 use lib.Dec.{eqb}
 use borrow.Author.Tests.{lt-ltb, le-ltb, le-leb, lt-leb}
 use Rattle.resolved_sort.specs.declared.ComplexSort.{ComplexSort}
@@ -24,75 +24,63 @@ use Rattle.resolved_sort.specs.Rows.{Checked, stored_at}
 use Rattle.resolved_sort.specs.Bounds.{intern_at}
 use Rattle.resolved_sort.proofs.Grown.{after_none, more}
 use Rattle.resolved_sort.proofs.Reached.{no_confusion}
-use Rattle.sort_interner.proofs.Runs.{length_given}
 use Rattle.unification.specs.declared.Lengths.{Lengths}
-use Rattle.unification.specs.declared.Full.{Full as NoRoomIn}
+use Rattle.unification.specs.declared.Full.{Full}
 use Rattle.std.specs.Result.{IsErr, IsErrAnd}
 use Rattle.resolved_sort.specs.declared.NoRoom.{NoRoom as NoRoomLeft}
 use Rattle.resolved_sort.specs.Rows.{interned_at}
 use Rattle.resolved_sort.proofs.Numbers.{true_not_false}
 use Rattle.related_sorts.specs.Arena.{node_of}
 use Rattle.unification.specs.declared.InferSortId.{InferSortId}
-use Rattle.unification.specs.declared.Three.{Three}
-use Rattle.unification.specs.declared.Related.{Related}
-use Rattle.unification.specs.declared.Related.TheVariants.{These, NoList, Full}
 use Rattle.unification.specs.Nodes.{max_nodes, max_node_entries, node_entries_at}
 use Rattle.unification.specs.Related.{related_container}
-use Rattle.unification.specs.Making.{Lent, Makes, made, no_room, ◌and-then◌, only, with_sorts, push_node}
+use Rattle.unification.specs.Making.{Lent, Makes, made, no_list, no_room, ◌and-then◌, only, with_sorts, push_node}
 use Rattle.unification.specs.Making.{append_node, intern_container, related_over, push_functions}
 use Rattle.unification.specs.Inner.Making.{lent}
 use Rattle.unification.specs.Resolve.{with_counts}
-use Rattle.related_sorts.specs.Inner.Outcome.{found_op, row, three_places, no_places, one_place, before, after, related_made, as_related, some_related, AreThese, AtMost, Ranges, ListsAtMost, Relates}
-
--- numbers
-pub are_these : (r t : Three) → r ≡ t → (ps : List ℕ) → three_places t ≡ ps → t.count ≤ 3 → AreThese r ps
-are_these r t e ps x l = record { says = ap three_places e ∙ x; few = subst (λ (y : Three). y.count ≤ 3) (sym e) l }
+use Rattle.related_sorts.specs.declared.listing.Listed.{Listed}
+use Rattle.related_sorts.specs.Listed.{numbers, places}
+use Rattle.related_sorts.specs.Inner.Outcome.{found_op, row, no_room_in, listed, some_listed}
+use Rattle.related_sorts.proofs.Numbers.{length_numbers, get_or_numbers, set_numbers}
 
 -- one more node
-module _ (ws ns : List ℕ) (k : Lengths) (kind part : ℕ) (ids : List ℕ) (count : ℕ) (len : length ids ≡ 16) (few : count ≤ 16) where
+module _ (ws ns : List ℕ) (k : Lengths) (kind part : ℕ) (args : List ℕ) where
   abbrev W : Lent
   W = lent ws ns k
 
   abbrev r : Row
-  r = row kind part (take count ids)
-
-  many : length (take count ids) ≡ count
-  many = length_given ids count len few
+  r = row kind part args
 
   pub no_row : max_nodes ≤ k.nodes → no_room 16 W ≡ push_node r W
   unfolding push_node
   no_row l = rw (le-ltb k.nodes max_nodes l)
 
   module _ (l : k.nodes < max_nodes) where
-    pub no_entries : max_node_entries < k.arguments + count → no_room 16 W ≡ push_node r W
+    pub no_entries : max_node_entries < k.arguments + length args → no_room 16 W ≡ push_node r W
     unfolding push_node
-    no_entries h = rw (lt-ltb k.nodes max_nodes l, many, lt-leb (k.arguments + count) max_node_entries h)
+    no_entries h = rw (lt-ltb k.nodes max_nodes l, lt-leb (k.arguments + length args) max_node_entries h)
 
-    pub node_made : k.arguments + count ≤ max_node_entries → (start : ℕ) → start ≡ cond (eqb kind function_kind) k.arguments 0 → (ns₁ ns₂ : List ℕ)
-        → ns₁ ≡ put_row ns k.nodes kind part start count → ns₂ ≡ sets ns₁ (4096 + (4096 + k.arguments)) (take count ids)
+    pub node_made : k.arguments + length args ≤ max_node_entries → (start : ℕ) → start ≡ cond (eqb kind function_kind) k.arguments 0 → (ns₁ ns₂ : List ℕ)
+        → ns₁ ≡ put_row ns k.nodes kind part start (length args) → ns₂ ≡ sets ns₁ (node_entries_at + k.arguments) args
         → made (1024 + k.nodes) (lent ws ns₂ (record {
           sorts = k.sorts;
           entries = k.entries;
-          nodes = k.nodes +
-              1;
-          arguments = k.arguments + count;
+          nodes = k.nodes + 1;
+          arguments = k.arguments + length args;
           variables = k.variables;
         })) ≡ push_node r W
     unfolding push_node append_node
     node_made h start es ns₁ ns₂ e₁ e₂ =
-        rw (lt-ltb k.nodes max_nodes l, many, le-leb (k.arguments + count) max_node_entries h)
+        rw (lt-ltb k.nodes max_nodes l, le-leb (k.arguments + length args) max_node_entries h)
         (ap
         (λ ms. made (1024 + k.nodes) (lent ws ms (record {
           sorts = k.sorts;
           entries = k.entries;
-          nodes = k.nodes +
-              1;
-          arguments = k.arguments + count;
+          nodes = k.nodes + 1;
+          arguments = k.arguments + length args;
           variables = k.variables;
         })))
-        (e₂ ∙ ap₂ (λ (xs : List ℕ) (j : ℕ). sets xs j (take count ids)) (e₁ ∙ ap (λ (s : ℕ). put_row ns k.nodes kind
-        part s count) es) (let z : 4096 + (4096 + k.arguments) ≡ node_entries_at + k.arguments = omega arith in
-        z)))
+        (e₂ ∙ ap (λ (xs : List ℕ). sets xs (node_entries_at + k.arguments) args) (e₁ ∙ ap (λ (s : ℕ). put_row ns k.nodes kind part s (length args)) es)))
 
 -- the parts of a place, one after another
 pub one_more_part : (ps ids : List ℕ) (i : ℕ) → i < length ids → i < length ps → take i ids ≡ take i ps → (x : ℕ)
@@ -104,116 +92,115 @@ one_more_part ps ids i l m e x y =
 pub parts_stored : (ps ids : List ℕ) (i n : ℕ) → i ≡ n → take i ids ≡ take i ps → take n ids ≡ take n ps
 parts_stored ps ids i n e x = subst (λ (j : ℕ). take j ids ≡ take j ps) e x
 
--- an answer to one making is that to an equal one
-pub lists_as : (n : ℕ) (ws ns : List ℕ) (a : Related) {O P : Makes (List ℕ)} → ListsAtMost n ws ns a O → O ≡ P → ListsAtMost n ws ns a P
-lists_as n ws ns a r e = record { says = r.says ∙ e; few = r.few }
-
-pub relates_as : (ws ns : List ℕ) (a : Related) {O P : Makes (List ℕ)} → Relates ws ns a O → O ≡ P → Relates ws ns a P
-relates_as ws ns a r e = lists_as 3 ws ns a r e
-
-pub at_most_more : (m n : ℕ) (a : Related) → m ≤ n → AtMost m a → AtMost n a
-at_most_more m n (These t k) l h = omega (arith, l, h)
-at_most_more m n (NoList k) l h = tt
-at_most_more m n (Full c k) l h = tt
-
 -- an answer that is an error
-pub same_err : {A : Type 0} (r : Result A NoRoomIn) (x : NoRoomIn) → IsErr r × IsErrAnd r (λ e. e ≡ x) → r ≡ Err x
+pub same_err : {A : Type 0} (r : Result A Full) (x : Full) → IsErr r × IsErrAnd r (λ e. e ≡ x) → r ≡ Err x
 same_err (Ok y) x i = absurd (true_not_false false i.0 refl)
-same_err {A} (Err y) x i = ap {B = Result A NoRoomIn} (λ z. Err z) i.1
-
-pub as_err : (n : ℕ) (ws ns : List ℕ) (k : Lengths) (r : Result Three NoRoomIn) (x : NoRoomIn) {O : Makes (List ℕ)} → r ≡ Err x
-    → ListsAtMost n ws ns (some_related (Err x) k) O → ListsAtMost n ws ns (some_related r k) O
-as_err n ws ns k r x {O} e u = subst (λ (y : Result Three NoRoomIn). ListsAtMost n ws ns (some_related y k) O) (sym e) u
-
-pub as_no_list : (ws ns : List ℕ) (k : Lengths) (r : Result (Found Three) NoRoomIn) (x : NoRoomIn) {O : Makes (List ℕ)} → r ≡ Err x
-    → ListsAtMost 3 ws ns (some_related (Err x) k) O → ListsAtMost 3 ws ns (as_related r k) O
-as_no_list ws ns k r x {O} e u = subst (λ (y : Result (Found Three) NoRoomIn). ListsAtMost 3 ws ns (as_related y k) O) (sym e) u
+same_err {A} (Err y) x i = ap {B = Result A Full} (λ z. Err z) i.1
 
 -- what is known of an answer, by what the answer was
-pub by_answer : (n : ℕ) (ws ns : List ℕ) (k : Lengths) (a b : Result Three NoRoomIn) {O : Makes (List ℕ)} → a ≡ b
-    → ListsAtMost n ws ns (some_related a k) O → ListsAtMost n ws ns (some_related b k) O
-by_answer n ws ns k a b {O} e = subst (λ (y : Result Three NoRoomIn). ListsAtMost n ws ns (some_related y k) O) e
+pub some_as : (W : Lent) (a b : Result Listed Full) {O : Makes (List ℕ)} → a ≡ b → some_listed a W ≡ O → some_listed b W ≡ O
+some_as W a b {O} e = subst (λ (y : Result Listed Full). some_listed y W ≡ O) e
 
-pub by_listed : (ws ns : List ℕ) (k : Lengths) (a b : Result (Found Three) NoRoomIn) {O : Makes (List ℕ)} → a ≡ b
-    → ListsAtMost 3 ws ns (as_related a k) O → ListsAtMost 3 ws ns (as_related b k) O
-by_listed ws ns k a b {O} e = subst (λ (y : Result (Found Three) NoRoomIn). ListsAtMost 3 ws ns (as_related y k) O) e
+pub listed_as : (W : Lent) (a b : Result (Found Listed) Full) {O : Makes (List ℕ)} → a ≡ b → listed a W ≡ O → listed b W ≡ O
+listed_as W a b {O} e = subst (λ (y : Result (Found Listed) Full). listed y W ≡ O) e
+
+-- an answer handed on
+pub some_err : (W : Lent) (r : Result Listed Full) (x : Full) {O : Makes (List ℕ)} → r ≡ Err x → no_room (no_room_in x) W ≡ O → some_listed r W ≡ O
+some_err W r x e = some_as W (Err x) r (sym e)
+
+pub listed_err : (W : Lent) (r : Result (Found Listed) Full) (x : Full) {O : Makes (List ℕ)} → r ≡ Err x → no_room (no_room_in x) W ≡ O → listed r W ≡ O
+listed_err W r x e = listed_as W (Err x) r (sym e)
 
 pub interned_as : (ws : List ℕ) (K : Counts) (a b : Result SortId NoRoomLeft) {T : Stored} → a ≡ b → interned_at ws K a ≡ T → interned_at ws K b ≡ T
 interned_as ws K a b {T} e = subst (λ (r : Result SortId NoRoomLeft). interned_at ws K r ≡ T) e
 
 -- the words that the interner held are the arena's
-pub sorts_moved : {us vs ns : List ℕ} {a : Related} {O : Makes (List ℕ)} → vs ≡ us → Relates us ns a O → Relates vs ns a O
-sorts_moved {ns = ns} {a = a} {O = O} e = subst (λ (ws : List ℕ). Relates ws ns a O) (sym e)
+pub sorts_moved : (us vs ns : List ℕ) (k : Lengths) (ps : List ℕ) {O : Makes (List ℕ)} → vs ≡ us → made ps (lent us ns k) ≡ O → made ps (lent vs ns k) ≡ O
+sorts_moved us vs ns k ps {O} e = subst (λ (ws : List ℕ). made ps (lent ws ns k) ≡ O) (sym e)
 
--- functions over ranges: over the first, and then over the rest
-two_of_three : (c x y z : ℕ) → c ≤ 2 → take c (x ∷ y ∷ []) ≡ take c (x ∷ y ∷ z ∷ [])
-two_of_three zero x y z l = refl
-two_of_three (suc zero) x y z l = refl
-two_of_three (suc (suc zero)) x y z l = refl
-two_of_three (suc (suc (suc c))) x y z l = absurd (omega (arith, l))
+pub room_moved : (us vs ns : List ℕ) (k : Lengths) {O : Makes (List ℕ)} → vs ≡ us → no_room 15 (lent us ns k) ≡ O → no_room 15 (lent vs ns k) ≡ O
+room_moved us vs ns k {O} e = subst (λ (ws : List ℕ). no_room 15 (lent ws ns k) ≡ O) (sym e)
 
-one_and_two : (n c x y z w : ℕ) → n ≡ suc c → c ≤ 2 → take n (x ∷ y ∷ z ∷ []) ≡ x ∷ take c (y ∷ z ∷ w ∷ [])
-one_and_two n c x y z w e l = ap (λ (m : ℕ). take m (x ∷ y ∷ z ∷ [])) e ∙ ap (λ (ys : List ℕ). x ∷ ys) (two_of_three c y z w l)
+-- one making after another, and then a third
+pub then_then : {A B C : Type 0} (O : Makes A) (f : A → Lent → Makes B) (g : B → Lent → Makes C)
+    → ((O and-then f) and-then g) ≡ (O and-then (λ a W. f a W and-then g))
+then_then (made a W) f g = refl
+then_then (no_list W) f g = refl
+then_then (no_room c W) f g = refl
 
-module _ (ws xs : List ℕ) (ranges : Three) (few : ranges.count ≤ 3) (ns : List ℕ) (k : Lengths) where
-  abbrev all : Makes (List ℕ)
-  all = push_functions xs (three_places ranges) (lent ws ns k)
+-- Functions over ranges, one after another: before the i-th those over the ranges before it are made, and W is left.
+abbrev before : List ℕ → List ℕ → Lent → Makes (List ℕ)
+before done ps W = made (done ++ ps) W
 
-  pub none_over : ranges.count ≡ 0 → (a : Related) → a ≡ These no_places k → ListsAtMost ranges.count ws ns a all
-  unfolding push_functions
-  none_over e a y =
-      record {
-        says =
-            ap (related_made ws ns) y
-            ∙ sym (ap (λ (n : ℕ). push_functions xs (take n (ranges.first.0 ∷ ranges.second.0 ∷ ranges.third.0 ∷ [])) (lent ws ns k)) e);
-        few = subst (AtMost ranges.count) (sym y) (omega arith);
-      }
+pub record Over (xs : List ℕ) (rs : Listed) (W₀ : Lent) (ids : List InferSortId) (W : Lent) (i : ℕ) : Type 0 where
+  pub within : i ≤ rs.count
+  pub long : length ids ≡ 3
+  pub same : push_functions xs (places rs) W₀ ≡ (push_functions xs (drop i (places rs)) W and-then before (take i (numbers ids)))
 
-  module _ (h : ranges.count ≡ 0 → ⊥) (ws₁ ns₁ : List ℕ) (k₁ : Lengths) (p : Result InferSortId NoRoomIn)
-      (e : node_of p (lent ws₁ ns₁ k₁) ≡ push_node (row function_kind ranges.first.0 xs) (lent ws ns k)) where
-    abbrev over_rest : ℕ → Lent → Makes (List ℕ)
-    over_rest q W = push_functions xs (three_places (after ranges)) W and-then (λ ps W. made (q ∷ ps) W)
+module _ (xs : List ℕ) (rs : Listed) (long : length rs.ids ≡ 3) (W₀ : Lent) where
+  keep_all : (O : Makes (List ℕ)) → O ≡ (O and-then before [])
+  keep_all (made ps W) = refl
+  keep_all (no_list W) = refl
+  keep_all (no_room c W) = refl
 
-    split : three_places ranges ≡ ranges.first.0 ∷ three_places (after ranges)
-    split =
-        one_and_two ranges.count (ranges.count - 1) ranges.first.0 ranges.second.0 ranges.third.0 ranges.third.0
-        (omega (arith, h)) (omega (arith, few))
+  pub over_begins : Over xs rs W₀ rs.ids W₀ 0
+  over_begins = record { within = omega arith; long = long; same = keep_all (push_functions xs (places rs) W₀) }
 
-    first_pushed : all ≡ (node_of p (lent ws₁ ns₁ k₁) and-then over_rest)
+  module _ (ids : List InferSortId) (W : Lent) (i : ℕ) (g : Over xs rs W₀ ids W i) where
+    many : length (places rs) ≡ rs.count
+    many = length-take-le rs.count (numbers rs.ids) (omega (arith, rs.few, length_numbers rs.ids, long))
+
+    pub over_ends : rs.count ≤ i → made (take rs.count (numbers ids)) W ≡ push_functions xs (places rs) W₀
     unfolding push_functions
-    first_pushed = ap (λ (ys : List ℕ). push_functions xs ys (lent ws ns k)) split ∙ ap (λ O. O and-then over_rest) (sym e)
+    over_ends h =
+        let none : drop i (places rs) ≡ [] = drop_of_length-le (places rs) (omega (arith, many, h)) in
+        sym (g.same ∙ ap (λ (ys : List ℕ). push_functions xs ys W and-then before (take i (numbers ids))) none
+        ∙ ap (λ (ys : List ℕ). made ys W) (append-nil (take i (numbers ids))
+        ∙ ap (λ (j : ℕ). take j (numbers ids)) (let z : i ≡ rs.count = omega (arith, h, g.within) in z)))
 
-    pub push_ends : (x : NoRoomIn) → p ≡ Err x → ListsAtMost ranges.count ws₁ ns₁ (some_related (Err x) k₁) all
-    push_ends x z = record { says = sym (first_pushed ∙ ap (λ y. node_of y (lent ws₁ ns₁ k₁) and-then over_rest) z); few = tt }
+    module _ (h : i < rs.count) (p : Result InferSortId Full) (W₁ : Lent) (range : ℕ) (er : range ≡ (get_or rs.ids i (record { 0 = 0 })).0)
+        (e : node_of p W₁ ≡ push_node (row function_kind range xs) W) where
+      abbrev rest : ℕ → Lent → Makes (List ℕ)
+      rest q V = push_functions xs (drop (suc i) (places rs)) V and-then (λ ps U. made (q ∷ ps) U)
 
-    module _ (q : InferSortId) (z : p ≡ Ok q) (ws₂ ns₂ : List ℕ) (k₂ : Lengths) (t : Three) (et : t ≡ after ranges)
-        (r : Result Three NoRoomIn) (v : ListsAtMost t.count ws₂ ns₂ (some_related r k₂) (push_functions xs (three_places t) (lent ws₁ ns₁ k₁))) where
-      there : ListsAtMost (after ranges).count ws₂ ns₂ (some_related r k₂) (push_functions xs (three_places (after ranges)) (lent ws₁ ns₁ k₁))
-      there = subst (λ (x : Three). ListsAtMost x.count ws₂ ns₂ (some_related r k₂) (push_functions xs (three_places x) (lent ws₁ ns₁ k₁))) et v
+      range_is : range ≡ get_or (places rs) i 0
+      range_is = er ∙ (get_or_numbers rs.ids i ∙ sym (get_or-take rs.count (numbers rs.ids) i 0 h))
 
-      on : (related_made ws₂ ns₂ (some_related r k₂) and-then (λ ps W. made (q.0 ∷ ps) W)) ≡ all
-      on = ap (λ O. O and-then (λ ps W. made (q.0 ∷ ps) W)) there.says ∙ sym (first_pushed ∙ ap (λ y. node_of y (lent ws₁ ns₁ k₁) and-then over_rest) z)
+      step : push_functions xs (places rs) W₀ ≡ (node_of p W₁ and-then (λ q V. rest q V and-then before (take i (numbers ids))))
+      unfolding push_functions
+      step =
+          g.same
+          ∙ (ap (λ (ys : List ℕ). push_functions xs ys W and-then before (take i (numbers ids))) (drop-cons (places rs) i 0 (omega (arith, many, h)))
+          ∙ (ap (λ (y : ℕ). (push_node (row function_kind y xs) W and-then rest) and-then before (take i (numbers ids))) (sym range_is)
+          ∙ (ap (λ O. (O and-then rest) and-then before (take i (numbers ids))) (sym e)
+          ∙ then_then (node_of p W₁) rest (before (take i (numbers ids))))))
 
-      pub rest_ends : (x : NoRoomIn) → r ≡ Err x → ListsAtMost ranges.count ws₂ ns₂ (some_related (Err x) k₂) all
-      rest_ends x y = record { says = subst (λ (w : Result Three NoRoomIn). (related_made ws₂ ns₂ (some_related w k₂) and-then (λ ps W. made (q.0 ∷ ps) W)) ≡ all) y on; few = tt }
+      pub over_full : (x : Full) → p ≡ Err x → no_room (no_room_in x) W₁ ≡ push_functions xs (places rs) W₀
+      over_full x z = sym (step ∙ ap (λ y. node_of y W₁ and-then (λ q V. rest q V and-then before (take i (numbers ids)))) z)
 
-      module _ (rest : Three) (y : r ≡ Ok rest) where
-        few_there : rest.count ≤ ranges.count - 1
-        few_there = subst (λ (w : Result Three NoRoomIn). AtMost (ranges.count - 1) (some_related w k₂)) y there.few
+      one_more : (q : ℕ) (ps : List ℕ) → take i (numbers ids) ++ (q ∷ ps) ≡ take (i + 1) (set (numbers ids) i q) ++ ps
+      one_more q ps =
+          sym (append_assoc (take i (numbers ids)) (q ∷ []) ps)
+          ∙ ap (λ (ys : List ℕ). ys ++ ps)
+          (sym (ap (λ (j : ℕ). take j (set (numbers ids) i q)) (add-one i) ∙ take-suc-set (numbers ids) i q (omega (arith, length_numbers ids, g.long, h, rs.few))))
 
-        pub rest_few : rest.count ≤ 2
-        rest_few = omega (arith, few_there, few)
+      after_one : (q : ℕ) (O : Makes (List ℕ)) → ((O and-then (λ ps U. made (q ∷ ps) U)) and-then before (take i (numbers ids)))
+          ≡ (O and-then before (take (i + 1) (set (numbers ids) i q)))
+      after_one q (made ps U) = ap (λ (ys : List ℕ). made ys U) (one_more q ps)
+      after_one q (no_list U) = refl
+      after_one q (no_room c U) = refl
 
-        pub push_goes_on : (b : Three) → b ≡ before q rest → ListsAtMost ranges.count ws₂ ns₂ (These b k₂) all
-        push_goes_on b eb =
-            rw eb
-            (record {
-              says =
-                  ap (λ (ys : List ℕ). made ys (lent ws₂ ns₂ k₂))
-                  (one_and_two (rest.count + 1) rest.count q.0 rest.first.0 rest.second.0 rest.third.0 (add-one rest.count) rest_few)
-                  ∙ subst (λ (w : Result Three NoRoomIn). (related_made ws₂ ns₂ (some_related w k₂) and-then (λ ps W. made (q.0 ∷ ps) W)) ≡ all) y on;
-              few = omega (arith, few_there, h);
-            })
+      pub over_goes_on : (q : InferSortId) → p ≡ Ok q → Over xs rs W₀ (set ids i q) W₁ (i + 1)
+      over_goes_on q z =
+          record {
+            within = omega (arith, h);
+            long = length-set ids i q ∙ g.long;
+            same =
+                step ∙ (ap (λ y. node_of y W₁ and-then (λ q V. rest q V and-then before (take i (numbers ids)))) z
+                ∙ (after_one q.0 (push_functions xs (drop (suc i) (places rs)) W₁)
+                ∙ (ap (λ (j : ℕ). push_functions xs (drop j (places rs)) W₁ and-then before (take (i + 1) (set (numbers ids) i q.0))) (sym (add-one i))
+                ∙ ap (λ (ys : List ℕ). push_functions xs (drop (i + 1) (places rs)) W₁ and-then before (take (i + 1) ys)) (sym (set_numbers ids i q)))));
+          }
 
 -- interning that found no room has changed nothing, and it never answers that there is none
 module _ (ws : List ℕ) (n e : ℕ) (k : Checked ws n e) (t : Tree) (ws₁ : List ℕ) where
@@ -239,13 +226,6 @@ module _ (ws : List ℕ) (n e : ℕ) (k : Checked ws n e) (t : Tree) (ws₁ : Li
   unfolding intern_at intern
   never_none K x = none_by K (member (trees ws n) t) (fits t (sorts_of ws n e)) x
 
--- no place, and one
-pub no_places_lem : (ws ns : List ℕ) (k : Lengths) (a : Related) → a ≡ These no_places k → Relates ws ns a (made [] (lent ws ns k))
-no_places_lem ws ns k a y = record { says = ap (related_made ws ns) y; few = subst Ranges (sym y) (omega arith) }
-
-one_place_lem : (ws ns : List ℕ) (p : InferSortId) (k : Lengths) (a : Related) → a ≡ These (one_place p) k → Relates ws ns a (made (p.0 ∷ []) (lent ws ns k))
-one_place_lem ws ns p k a y = record { says = ap (related_made ws ns) y; few = subst Ranges (sym y) (omega arith) }
-
 -- containers
 module _ (up : Bool) (o : ComplexSort) (b : Found ComplexSort) (e : b ≡ found_op (related_container up o)) where
   op_is : (x : Option ComplexSort) (q : ComplexSort) → found_op x ≡ Some q → x ≡ some q
@@ -256,10 +236,9 @@ module _ (up : Bool) (o : ComplexSort) (b : Found ComplexSort) (e : b ≡ found_
   op_none none z = refl
   op_none (some p) z = no_confusion (cc)
 
-  pub no_container : b ≡ None → (sort : Bool) (s : ℕ) (ws ns : List ℕ) (k : Lengths) (a : Related) → a ≡ These no_places k
-      → Relates ws ns a (related_over (related_container up o) sort s (lent ws ns k))
-  no_container z sort s ws ns k a y = relates_as ws ns a (no_places_lem ws ns k a y)
-      (sym (ap (λ x. related_over x sort s (lent ws ns k)) (op_none (related_container up o) (sym e ∙ z))))
+  pub no_container : b ≡ None → (sort : Bool) (s : ℕ) (W : Lent) (l : Listed) → places l ≡ [] → made (places l) W ≡ related_over (related_container up o) sort s W
+  no_container z sort s W l y =
+      ap (λ (ps : List ℕ). made ps W) y ∙ sym (ap (λ x. related_over x sort s W) (op_none (related_container up o) (sym e ∙ z)))
 
   module _ (q : ComplexSort) (z : b ≡ Some q) (s : ℕ) (ws ns : List ℕ) (k : Lengths) where
     is_some : related_container up o ≡ some q
@@ -276,37 +255,29 @@ module _ (up : Bool) (o : ComplexSort) (b : Found ComplexSort) (e : b ≡ found_
       sort_of = ap (λ x. related_over x true s (lent ws ns k)) is_some ∙ ap (λ (r : Stored). with_sorts (lent ws ns k) r r.answer and-then only) interned
 
       pub container_interned : (id : SortId) (K : Counts) → j ≡ JoinedAt id K → (k' : Lengths) → k' ≡ with_counts k K
-          → (a : Related) → a ≡ These (one_place (record { 0 = id.0 })) k'
-          → Relates ws₁ ns a (related_over (related_container up o) true s (lent ws ns k))
-      container_interned id K x k' ek a y =
-          relates_as ws₁ ns a (one_place_lem ws₁ ns (record { 0 = id.0 }) k' a y) (ap (λ (l : Lengths). made (id.0 ∷ [])
-          (lent ws₁ ns l)) ek ∙ sym (sort_of ∙ ap (λ w. with_sorts (lent ws ns k) (stored_at ws₁ j) w and-then only)
-          x))
+          → (l : Listed) → places l ≡ id.0 ∷ [] → made (places l) (lent ws₁ ns k') ≡ related_over (related_container up o) true s (lent ws ns k)
+      container_interned id K x k' ek l y =
+          ap (λ (ps : List ℕ). made ps (lent ws₁ ns k')) y
+          ∙ (ap (λ (m : Lengths). made (id.0 ∷ []) (lent ws₁ ns m)) ek ∙ sym (sort_of ∙ ap (λ w. with_sorts (lent ws ns k) (stored_at ws₁ j) w and-then only) x))
 
-      module _ (ck : Checked ws k.sorts k.entries) where
-        pub no_room_for_sort : j ≡ JoinedFull → Relates ws₁ ns (Full 15 k) (related_over (related_container up o) true s
-            (lent ws ns k))
-        no_room_for_sort x =
-            relates_as ws₁ ns (Full 15 k) (record { says = refl; few = tt })
-            (ap (λ (ys : List ℕ). no_room 15 (lent ys ns k)) (full_unchanged ws k.sorts k.entries ck
-            (container q (look (trees ws k.sorts) s)) ws₁ (ap (stored_at ws₁) (sym x) ∙ sym interned))
-            ∙ sym (sort_of ∙ ap (λ w. with_sorts (lent ws ns k) (stored_at ws₁ j) w and-then only) x))
-
-        pub always_interned : (K : Counts) → j ≡ JoinedNothing K → (a : Related) → Relates ws₁ ns a (related_over (related_container up o) true s (lent ws ns k))
-        always_interned K x a = never_none ws k.sorts k.entries ck (container q (look (trees ws k.sorts) s))
-            ws₁ K (ap (stored_at ws₁) (sym x) ∙ sym interned)
+      pub no_room_for_sort : Checked ws k.sorts k.entries → j ≡ JoinedFull → no_room 15 (lent ws₁ ns k) ≡ related_over (related_container up o) true s (lent ws ns k)
+      no_room_for_sort ck x =
+          ap (λ (ys : List ℕ). no_room 15 (lent ys ns k)) (full_unchanged ws k.sorts k.entries ck
+          (container q (look (trees ws k.sorts) s)) ws₁ (ap (stored_at ws₁) (sym x) ∙ sym interned))
+          ∙ sym (sort_of ∙ ap (λ w. with_sorts (lent ws ns k) (stored_at ws₁ j) w and-then only) x)
 
     -- of a node
-    module _ (ws₁ ns₁ : List ℕ) (k₁ : Lengths) (p : Result InferSortId NoRoomIn) (kind : ℕ) (ek : kind ≡ kind_op q) (xs : List ℕ) (none-there : xs ≡ [])
-        (ep : node_of p (lent ws₁ ns₁ k₁) ≡ push_node (row kind s xs) (lent ws ns k)) where
+    module _ (ws₁ ns₁ : List ℕ) (k₁ : Lengths) (p : Result InferSortId Full) (kind : ℕ) (ek : kind ≡ kind_op q)
+        (ep : node_of p (lent ws₁ ns₁ k₁) ≡ push_node (row kind s []) (lent ws ns k)) where
       node_over : related_over (related_container up o) false s (lent ws ns k) ≡ (node_of p (lent ws₁ ns₁ k₁) and-then only)
       node_over =
           ap (λ x. related_over x false s (lent ws ns k)) is_some
-          ∙ (ap₂ (λ (c : ℕ) (ys : List ℕ). push_node (row c s ys) (lent ws ns k) and-then only) (sym ek) (sym none-there) ∙ ap (λ O. O and-then only) (sym ep))
+          ∙ (ap (λ (c : ℕ). push_node (row c s []) (lent ws ns k) and-then only) (sym ek) ∙ ap (λ O. O and-then only) (sym ep))
 
-      pub container_pushed : (c : InferSortId) → p ≡ Ok c → (t : Three) → t ≡ one_place c → Relates ws₁ ns₁ (These t k₁) (related_over (related_container up o) false s (lent ws ns k))
-      container_pushed c x t y = relates_as ws₁ ns₁ (These t k₁) (one_place_lem ws₁ ns₁ c k₁ (These t k₁) (ap (λ (z : Three). These z k₁) y))
-          (sym (node_over ∙ ap (λ w. node_of w (lent ws₁ ns₁ k₁) and-then only) x))
+      pub container_pushed : (c : InferSortId) → p ≡ Ok c → (l : Listed) → places l ≡ c.0 ∷ []
+          → made (places l) (lent ws₁ ns₁ k₁) ≡ related_over (related_container up o) false s (lent ws ns k)
+      container_pushed c x l y =
+          ap (λ (ps : List ℕ). made ps (lent ws₁ ns₁ k₁)) y ∙ sym (node_over ∙ ap (λ w. node_of w (lent ws₁ ns₁ k₁) and-then only) x)
 
-      pub no_room_for_container : (x : NoRoomIn) → p ≡ Err x → Relates ws₁ ns₁ (some_related (Err x) k₁) (related_over (related_container up o) false s (lent ws ns k))
-      no_room_for_container x y = record { says = sym (node_over ∙ ap (λ w. node_of w (lent ws₁ ns₁ k₁) and-then only) y); few = tt }
+      pub no_room_for_container : (x : Full) → p ≡ Err x → no_room (no_room_in x) (lent ws₁ ns₁ k₁) ≡ related_over (related_container up o) false s (lent ws ns k)
+      no_room_for_container x y = sym (node_over ∙ ap (λ w. node_of w (lent ws₁ ns₁ k₁) and-then only) y)

@@ -16,9 +16,6 @@ use Rattle.resolved_sort.specs.declared.Sort.{Sort}
 use Rattle.resolved_sort.specs.declared.ComplexSort.{ComplexSort}
 use Rattle.resolved_sort.specs.Storage.{function_kind, kind_flat, kind_op}
 use Rattle.unification.specs.declared.Lengths.{Lengths}
-use Rattle.unification.specs.declared.Three.{Three}
-use Rattle.unification.specs.declared.Related.{Related}
-use Rattle.unification.specs.declared.Related.TheVariants.{These, NoList, Full}
 use Rattle.unification.specs.Term.{function_head, Shape, over, kind_head}
 use Rattle.unification.specs.Inner.Term.{head_of, parts_of}
 use Rattle.unification.specs.Nodes.{max_places, is_sort, Binds, binds_of}
@@ -39,10 +36,9 @@ use Rattle.unification.proofs.Grows.{ready_names, placed_grown}
 use Rattle.unification.proofs.MakingGrows.{MadeFrom, made_grows, AllPlaced}
 use Rattle.infer_nodes.specs.Inner.Parts.{NodesReady}
 use Rattle.related_sorts.specs.declared.Last.{Last}
-use Rattle.related_sorts.specs.Inner.Outcome.{three_places, related_made, IsFunction, FunctionAt, Ranges, ListsAtMost, Relates}
+use Rattle.related_sorts.specs.Inner.Outcome.{IsFunction, FunctionAt}
 use Rattle.related_sorts.specs.Inner.Ranges.{SixThere, related_head, Down, here, deeper, FinalRange, arguments_of, over_function}
 use Rattle.related_sorts.specs.Inner.Ranges.{outwards, Stands, AllStand}
-use Rattle.related_sorts.proofs.Laws.{relates_as, at_most_more}
 use Rattle.related_sorts.proofs.Ends as ends
 
 -- kinds: only a function has a function's
@@ -276,30 +272,24 @@ module _ (ws ns bs : List ℕ) (k : Lengths) (q : Ready ws ns bs k) where
           ends.end_of_end ws ns bs k q up (range_of (get_or fs i 0) n) y
           (ends.range_placed ws ns bs k q up (get_or fs i 0) n I (range_of (get_or fs i 0) n) refl) e
 
-      module _ (r : Last) (z : FinalRange ws ns bs k p fs r) (ws₁ ns₁ : List ℕ) (a : Related)
-          (u : Relates ws₁ ns₁ a (related_head up r.range.0 W)) where
-        found : related_made ws₁ ns₁ a ≡ answer r.range.0
-        found = u.says ∙ by_head r.range.0 z.placed (reached_end r.count r.range.0 z.down) z.ends
+      module _ (r : Last) (z : FinalRange ws ns bs k p fs r) (O : Makes (List ℕ)) (u : O ≡ related_head up r.range.0 W) where
+        found : O ≡ answer r.range.0
+        found = u ∙ by_head r.range.0 z.placed (reached_end r.count r.range.0 z.down) z.ends
 
-        pub functions_stand : Ranges a × AllStand fs r.count (related_made ws₁ ns₁ a)
-        functions_stand = (u.few, subst (AllStand fs r.count) (sym found) (back r.count r.range.0 z.down).0)
+        pub functions_stand : AllStand fs r.count O
+        functions_stand = subst (AllStand fs r.count) (sym found) (back r.count r.range.0 z.down).0
 
-        pub functions_related : (ws₂ ns₂ : List ℕ) (b : Related) → Relates ws₂ ns₂ b (outwards fs r.count (related_made ws₁ ns₁ a)) → Relates ws₂ ns₂ b (answer p)
-        functions_related ws₂ ns₂ b w = relates_as ws₂ ns₂ b w (ap (outwards fs r.count) found ∙ (back r.count r.range.0 z.down).1)
+        pub functions_related : outwards fs r.count O ≡ answer p
+        functions_related = ap (outwards fs r.count) found ∙ (back r.count r.range.0 z.down).1
 
 -- a function over what was found
-module _ (W : Lent) (f : ℕ) (F : FunctionAt W.sorts W.nodes W.lengths f) (t : Three) (few_ranges : t.count ≤ 3) where
+module _ (W : Lent) (f : ℕ) (F : FunctionAt W.sorts W.nodes W.lengths f) where
   pub function_counted : (m : ℕ) → m ≡ length (parts_of (graph W f)) → (0 < m) × IsFunction W.sorts W.nodes W.lengths f (m - 1)
   function_counted m em = ends.counted W.sorts W.nodes W.lengths f F m em
 
-  pub over_pushed : (n : ℕ) → IsFunction W.sorts W.nodes W.lengths f n → (xs : List ℕ) → take n xs ≡ take n (parts_of (graph W f))
-      → (ws₂ ns₂ : List ℕ) (b : Related) → ListsAtMost t.count ws₂ ns₂ b (push_functions (take n xs) (three_places t) W)
-      → Relates ws₂ ns₂ b (over_function f (three_places t) W)
-  over_pushed n I xs x ws₂ ns₂ b u =
-      record {
-        says = u.says ∙ ap (λ (ys : List ℕ). push_functions ys (three_places t) W) (x ∙ sym (ap arguments_of I.stands));
-        few = at_most_more t.count 3 b few_ranges u.few;
-      }
+  pub over_pushed : (n : ℕ) → IsFunction W.sorts W.nodes W.lengths f n → (xs ps : List ℕ) → xs ≡ take n (parts_of (graph W f))
+      → push_functions xs ps W ≡ over_function f ps W
+  over_pushed n I xs ps x = ap (λ (ys : List ℕ). push_functions ys ps W) (x ∙ sym (ap arguments_of I.stands))
 
 -- over no list, and where there is no room, stands nothing
 outwards_none : (fs : List ℕ) (i : ℕ) (V : Lent) → outwards fs i (no_list V) ≡ no_list V
@@ -312,27 +302,26 @@ unfolding outwards
 outwards_full fs zero c V = refl
 outwards_full fs (suc i) c V = outwards_full fs i c V
 
-pub over_no_list : (fs : List ℕ) (i : ℕ) (ws ns : List ℕ) (k : Lengths) → Relates ws ns (NoList k) (outwards fs i (related_made ws ns (NoList k)))
-over_no_list fs i ws ns k = record { says = sym (outwards_none fs i (lent ws ns k)); few = tt }
+pub over_no_list : (fs : List ℕ) (i : ℕ) (V : Lent) → no_list V ≡ outwards fs i (no_list V)
+over_no_list fs i V = sym (outwards_none fs i V)
 
-pub over_no_room : (fs : List ℕ) (i c : ℕ) (ws ns : List ℕ) (k : Lengths) → Relates ws ns (Full c k) (outwards fs i (related_made ws ns (Full c k)))
-over_no_room fs i c ws ns k = record { says = sym (outwards_full fs i c (lent ws ns k)); few = tt }
+pub over_no_room : (fs : List ℕ) (i c : ℕ) (V : Lent) → no_room c V ≡ outwards fs i (no_room c V)
+over_no_room fs i c V = sym (outwards_full fs i c V)
 
--- The loop back: over so many functions are left to go.
-pub record Rising (fs : List ℕ) (count : ℕ) (W₀ : Lent) (a₀ : Related) (W : Lent) (left : ℕ) (a : Related) : Type 0 where
-  pub few : Ranges a
-  pub stand : AllStand fs left (related_made W.sorts W.nodes a)
-  pub same : outwards fs left (related_made W.sorts W.nodes a) ≡ outwards fs count (related_made W₀.sorts W₀.nodes a₀)
+-- The loop back: over so many functions are left to go. O₀ was found, and O is left.
+pub record Rising (fs : List ℕ) (count : ℕ) (O₀ : Makes (List ℕ)) (left : ℕ) (O : Makes (List ℕ)) : Type 0 where
+  pub stand : AllStand fs left O
+  pub same : outwards fs left O ≡ outwards fs count O₀
   pub within : left ≤ count
 
-module _ (fs : List ℕ) (count : ℕ) (W₀ : Lent) (a₀ : Related) where
-  pub rise_begins : Ranges a₀ → AllStand fs count (related_made W₀.sorts W₀.nodes a₀) → Rising fs count W₀ a₀ W₀ count a₀
-  rise_begins r s = record { few = r; stand = s; same = refl; within = omega arith }
+module _ (fs : List ℕ) (count : ℕ) (O₀ : Makes (List ℕ)) where
+  pub rise_begins : AllStand fs count O₀ → Rising fs count O₀ count O₀
+  rise_begins s = record { stand = s; same = refl; within = omega arith }
 
-  module _ (W : Lent) (left : ℕ) (a : Related) (s : Rising fs count W₀ a₀ W left a) where
-    pub risen : left ≡ 0 → Relates W.sorts W.nodes a (outwards fs count (related_made W₀.sorts W₀.nodes a₀))
+  module _ (left : ℕ) (O : Makes (List ℕ)) (s : Rising fs count O₀ left O) where
+    pub risen : left ≡ 0 → O ≡ outwards fs count O₀
     unfolding outwards
-    risen e = record { says = subst (λ (i : ℕ). outwards fs i (related_made W.sorts W.nodes a) ≡ outwards fs count (related_made W₀.sorts W₀.nodes a₀)) e s.same; few = s.few }
+    risen e = subst (λ (i : ℕ). outwards fs i O ≡ outwards fs count O₀) e s.same
 
     module _ (h : 0 < left) where
       one_left : left ≡ suc (left - 1)
@@ -341,33 +330,26 @@ module _ (fs : List ℕ) (count : ℕ) (W₀ : Lent) (a₀ : Related) where
       abbrev f : ℕ
       f = get_or fs (left - 1) 0
 
-      next_stands : AllStand fs (suc (left - 1)) (related_made W.sorts W.nodes a)
-      next_stands = subst (λ (i : ℕ). AllStand fs i (related_made W.sorts W.nodes a)) one_left s.stand
+      next_stands : AllStand fs (suc (left - 1)) O
+      next_stands = subst (λ (i : ℕ). AllStand fs i O) one_left s.stand
 
-      pub function_asked : Stands f (related_made W.sorts W.nodes a)
+      pub function_asked : Stands f O
       unfolding AllStand
       function_asked = next_stands.0
 
-      module _ (W₁ : Lent) (b : Related) (u : Relates W₁.sorts W₁.nodes b (related_made W.sorts W.nodes a and-then over_function f)) where
-        further : outwards fs (left - 1) (related_made W₁.sorts W₁.nodes b) ≡ outwards fs count (related_made W₀.sorts W₀.nodes a₀)
+      module _ (P : Makes (List ℕ)) (u : P ≡ (O and-then over_function f)) where
+        further : outwards fs (left - 1) P ≡ outwards fs count O₀
         unfolding outwards
-        further = ap (outwards fs (left - 1)) u.says
-            ∙ subst (λ (i : ℕ). outwards fs i (related_made W.sorts W.nodes a) ≡ outwards fs count (related_made W₀.sorts W₀.nodes a₀)) one_left s.same
+        further = ap (outwards fs (left - 1)) u ∙ subst (λ (i : ℕ). outwards fs i O ≡ outwards fs count O₀) one_left s.same
 
-        pub rise_goes_on : Rising fs count W₀ a₀ W₁ (left - 1) b
+        pub rise_goes_on : Rising fs count O₀ (left - 1) P
         unfolding AllStand
         rise_goes_on =
             record {
-              few = u.few;
-              stand = subst (AllStand fs (left - 1)) (sym u.says) next_stands.1;
+              stand = subst (AllStand fs (left - 1)) (sym u) next_stands.1;
               same = further;
               within = omega (arith, s.within);
             }
 
-        pub rise_ends : (c : ℕ) (k : Lengths) → b ≡ Full c k → Relates W₁.sorts W₁.nodes (Full c k) (outwards fs count (related_made W₀.sorts W₀.nodes a₀))
-        rise_ends c k e =
-            record {
-              says = sym (outwards_full fs (left - 1) c (lent W₁.sorts W₁.nodes k))
-                  ∙ subst (λ (d : Related). outwards fs (left - 1) (related_made W₁.sorts W₁.nodes d) ≡ outwards fs count (related_made W₀.sorts W₀.nodes a₀)) e further;
-              few = tt;
-            }
+        pub rise_ends : (c : ℕ) (V : Lent) → P ≡ no_room c V → no_room c V ≡ outwards fs count O₀
+        rise_ends c V e = sym (outwards_full fs (left - 1) c V) ∙ subst (λ (Q : Makes (List ℕ)). outwards fs (left - 1) Q ≡ outwards fs count O₀) e further

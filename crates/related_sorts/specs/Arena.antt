@@ -2,14 +2,14 @@
 use Rattle.std.specs.Prelude.{◌≡◌, Option, Result, Ok, Err, List, ℕ}
 use Rattle.unification.specs.declared.InferSortId.{InferSortId}
 use Rattle.unification.specs.declared.Full.{Full}
-use Rattle.unification.specs.declared.Three.{Three}
 use Rattle.unification.specs.Checked.{Ready, Placed}
 use Rattle.infer_nodes.specs.declared.Bindings.{Bindings}
 use Rattle.unification.specs.Making.{Lent, Makes, made, no_room}
 use Rattle.unification.specs.Inner.Making.{lent}
 use Rattle.infer_nodes.specs.Inner.Parts.{NodesReady}
 use Rattle.related_sorts.specs.declared.Arena.{Arena}
-use Rattle.related_sorts.specs.Inner.Outcome.{no_room_in, as_related, some_related, ListsAtMost}
+use Rattle.related_sorts.specs.declared.listing.Listed.{Listed}
+use Rattle.related_sorts.specs.Inner.Outcome.{no_room_in, listed, some_listed}
 
 abbrev pub world : Arena → Lent
 world A = lent A.sorts.now A.nodes.now A.lengths
@@ -31,7 +31,7 @@ BindingsOf A bs B =
 abbrev pub PlacedIn : Arena → ℕ → Type 0
 PlacedIn A p = Placed A.lengths p
 
--- B holds the same words for the sorts and the nodes
+-- B has the same lent memory for the sorts and the nodes
 abbrev pub Keeps : Arena → Arena → Type 0
 Keeps A B = (B.sorts.ghost_name ≡ A.sorts.ghost_name) × (B.nodes.ghost_name ≡ A.nodes.ghost_name)
 
@@ -40,9 +40,9 @@ abbrev pub node_of : Result InferSortId Full → Lent → Makes ℕ
 node_of (Ok p) W = made p.0 W
 node_of (Err e) W = no_room (no_room_in e) W
 
--- The answer and what was left are those of the definition, and there are at most n places.
-abbrev pub Lists : ℕ → Arena → Result Three Full → Makes (List ℕ) → Type 0
-Lists n A r O = ListsAtMost n A.sorts.now A.nodes.now (some_related r A.lengths) O
+-- The answer and what was left are those of the definition.
+abbrev pub Lists : Arena → Result Listed Full → Makes (List ℕ) → Type 0
+Lists A r O = some_listed r (world A) ≡ O
 
-abbrev pub ListsSome : Arena → Result (Option Three) Full → Makes (List ℕ) → Type 0
-ListsSome A r O = ListsAtMost 3 A.sorts.now A.nodes.now (as_related r A.lengths) O
+abbrev pub ListsSome : Arena → Result (Option Listed) Full → Makes (List ℕ) → Type 0
+ListsSome A r O = listed r (world A) ≡ O

@@ -4,62 +4,54 @@
 #![tactic(auto)]
 
 ghost use Rattle.std.specs.Prelude.{◌≡◌, true, false, ◌+◌, ◌<◌, ◌≤◌, length, take};
+ghost use Rattle.std.proofs.lemmas.List.Edits.{sets};
 ghost use Rattle.resolved_sort.specs.Tree.{primitive};
 ghost use Rattle.resolved_sort.specs.Storage.{max_sorts, max_arguments, kind_flat, row_at};
 ghost use Rattle.resolved_sort.specs.Rows.{Checked};
 ghost use Rattle.unification.specs.Inner.Term.{parts_of};
-ghost use Rattle.unification.specs.Nodes.{max_places, binds_of, node_at};
+ghost use Rattle.unification.specs.Nodes.{max_places, node_entries_at, binds_of, node_at};
 ghost use Rattle.unification.specs.Checked.{graph_of, Ready, Placed};
 ghost use Rattle.unification.specs.Related.{related_container};
 ghost use Rattle.unification.specs.Making.{◌and-then◌, push_node, related_over, push_functions, related_places};
 ghost use Rattle.unification.specs.Making.{strict_related, made};
 ghost use Rattle.unification.specs.Inner.Making.{lent};
 ghost use Rattle.infer_nodes.specs.Inner.Parts.{NodesReady};
-ghost use Rattle.related_sorts.specs.Inner.Outcome.{found_op, three_places, row, AreThese, one_place};
-ghost use Rattle.related_sorts.specs.Inner.Outcome.{Relates, IsFunction, FunctionAt, as_related};
-ghost use Rattle.related_sorts.specs.Inner.Outcome.{before, after, no_places};
+ghost use Rattle.related_sorts.specs.Listed.{places};
+ghost use Rattle.related_sorts.specs.Inner.Outcome.{found_op, row, IsFunction, FunctionAt};
+ghost use Rattle.related_sorts.specs.Inner.Outcome.{IsRelated, Relates};
 ghost use Rattle.related_sorts.specs.Inner.Ranges.{related_head, over_function, outwards, Stands, AllStand};
 ghost use Rattle.related_sorts.specs.Inner.Ranges.{FinalRange, SixThere};
 
 use infer_nodes::{Bindings, Places, counts_of, node, taken_apart, with_counts};
 use resolved_sort::{ARGUMENT_WORDS, ComplexSort, FUNCTION_KIND, ResolvedSort, Sort, SortId};
-use sort_interner::{SortInterner, get, kind_of_op, put_args, put_row, start_of};
+use sort_interner::{SortInterner, get, kind_of_op, put_row, start_of};
 use unification::{
     FIRST_NODE, Full, InferSort, InferSortId, Lengths, MAX_NODE_ENTRIES, MAX_PLACES,
-    NODE_ENTRIES_BEHIND, NODE_NUMBERS, NodeId, Place, Related, Three,
+    NODE_ENTRIES_AT, NODE_NUMBERS, NodeId, Place, Related, Three,
 };
+use words::put;
+
+mod listing;
+
+pub use listing::Listed;
 
 // The numbers strictly above or below `sort`, in ascending distance.
 #[tactic(auto, unfolding(unification::specs::Related::related_numbers))]
-fn related_numbers(sort: Sort, up: bool) -> Three
-    ensures { AreThese result (related_places up (primitive sort)) }
+fn related_numbers(sort: Sort, up: bool) -> Listed
+    ensures { places result ≡ related_places up (primitive sort) }
 {
+    let pos = number_place(Sort::Pos);
+    let nat = number_place(Sort::Nat);
+    let int = number_place(Sort::Int);
+    let real = number_place(Sort::Real);
     match (sort, up) {
-        (Sort::Pos, true) => first_of(3, Sort::Nat, Sort::Int, Sort::Real),
-        (Sort::Nat, true) => first_of(2, Sort::Int, Sort::Real, Sort::Real),
-        (Sort::Int, true) => first_of(1, Sort::Real, Sort::Real, Sort::Real),
-        (Sort::Nat, false) => first_of(1, Sort::Pos, Sort::Pos, Sort::Pos),
-        (Sort::Int, false) => first_of(2, Sort::Nat, Sort::Pos, Sort::Pos),
-        (Sort::Real, false) => first_of(3, Sort::Int, Sort::Nat, Sort::Pos),
-        _ => first_of(0, sort, sort, sort),
-    }
-}
-
-// The places of so many of these sorts.
-fn first_of(count: u16, first: Sort, second: Sort, third: Sort) -> Three
-    ensures { result
-        ≡ record {
-          first = record { 0 = kind_flat (primitive first) };
-          second = record { 0 = kind_flat (primitive second) };
-          third = record { 0 = kind_flat (primitive third) };
-          count = count;
-        } }
-{
-    Three {
-        first: number_place(first),
-        second: number_place(second),
-        third: number_place(third),
-        count,
+        (Sort::Pos, true) => Listed::of(&[nat, int, real]),
+        (Sort::Nat, true) => Listed::of(&[int, real]),
+        (Sort::Int, true) => Listed::of(&[real]),
+        (Sort::Nat, false) => Listed::of(&[pos]),
+        (Sort::Int, false) => Listed::of(&[nat, pos]),
+        (Sort::Real, false) => Listed::of(&[int, nat, pos]),
+        _ => Listed::of(&[]),
     }
 }
 
@@ -99,56 +91,6 @@ fn arguments(places: &Places, id: InferSortId, count: u16) -> [u16; ARGUMENT_WOR
     words
 }
 
-// No places.
-fn none() -> Three
-    ensures { result ≡ no_places }
-{
-    Three {
-        first: InferSortId(0),
-        second: InferSortId(0),
-        third: InferSortId(0),
-        count: 0,
-    }
-}
-
-// One place.
-fn only(place: InferSortId) -> Three
-    ensures { result ≡ one_place place }
-{
-    Three {
-        first: place,
-        second: place,
-        third: place,
-        count: 1,
-    }
-}
-
-// A place before those listed.
-fn with_first(place: InferSortId, rest: Three) -> Three
-    requires { rest.count ≤ 2 }
-    ensures { result ≡ before place rest }
-{
-    Three {
-        first: place,
-        second: rest.first,
-        third: rest.second,
-        count: rest.count + 1,
-    }
-}
-
-// The places after the first.
-fn without_first(places: Three) -> Three
-    requires { 0 < places.count }
-    ensures { result ≡ after places }
-{
-    Three {
-        first: places.second,
-        second: places.third,
-        third: places.third,
-        count: places.count - 1,
-    }
-}
-
 // The final range of a function: what stands at the end of the range of the last of the functions that follow one
 // another, which are noted from the outermost on.
 #[derive(Drop)]
@@ -166,6 +108,8 @@ fn final_range(bindings: &Bindings, id: InferSortId, functions: &mut [u16]) -> L
     let places = bindings.places;
     let mut range = id;
     let mut count: u16 = 0;
+    // kept: how many functions follow one another is not known before, and what is noted comes with what is reached:
+    // successors would answer one of them only.
     while places.kind_at(range) == FUNCTION_KIND {
         functions[count as usize] = range.0;
         count += 1;
@@ -173,6 +117,16 @@ fn final_range(bindings: &Bindings, id: InferSortId, functions: &mut [u16]) -> L
         range = bindings.shallow_normalize(places.part(range, last));
     }
     Last { count, range }
+}
+
+// These words stored as the argument entries from the e-th on.
+fn put_arguments(nodes: &mut [u16], e: u16, arguments: &[u16])
+    requires { length arguments.now ≤ max_arguments }
+    ensures { nodes.new ≡ sets nodes.old (node_entries_at + e) arguments.now }
+{
+    for (i, &argument) in arguments.iter().enumerate() {
+        put(nodes, NODE_ENTRIES_AT + (e as usize) + i, argument);
+    }
 }
 
 // The sorts and nodes as they grow, and how much of them is in use: what is made is appended.
@@ -205,65 +159,61 @@ impl Arena<'_> {
     // One more node, where there is room.
     // Merc's arena only grows, and what a branch that is rolled back has made stays as harmless garbage. Here room has
     // an end, and the search gives these nodes back when the tries are over.
-    // kept: words with a count: put_args stores them so, and asks nothing of how many words are lent.
-    fn push(
-        &mut self,
-        kind: u16,
-        part: InferSortId,
-        words: [u16; ARGUMENT_WORDS],
-        count: u16,
-    ) -> Result<InferSortId, Full>
-        requires { count ≤ max_arguments }
+    fn push(&mut self, kind: u16, part: InferSortId, arguments: &[u16]) -> Result<InferSortId, Full>
+        requires { length arguments.now ≤ max_arguments }
         ensures keeps { Keeps self.old self.new }
         ensures pushed { node_of result (world self.new)
-            ≡ push_node (row kind part.0 (take count words)) (world self.old) }
+            ≡ push_node (row kind part.0 arguments.now) (world self.old) }
     {
         let n = self.lengths.nodes;
         let e = self.lengths.arguments;
+        let count = arguments.len();
         if NODE_NUMBERS <= n {
             return Err(Full::Nodes);
         }
-        if MAX_NODE_ENTRIES < (e as usize) + (count as usize) {
+        if MAX_NODE_ENTRIES < (e as usize) + count {
             return Err(Full::Nodes);
         }
-        put_row(self.nodes, n, kind, part.0, start_of(kind, e), count);
-        put_args(self.nodes, NODE_ENTRIES_BEHIND + e, words, count);
+        put_row(self.nodes, n, kind, part.0, start_of(kind, e), count as u16);
+        put_arguments(self.nodes, e, arguments);
         self.lengths.nodes = n + 1;
-        self.lengths.arguments = e + count;
+        self.lengths.arguments = e + count as u16;
         Ok(InferSortId(FIRST_NODE + n))
     }
 
     // Functions of the same arguments over each of the ranges.
-    fn push_functions(
-        &mut self,
-        ranges: Three,
-        domain: [u16; ARGUMENT_WORDS],
-        count: u16,
-    ) -> Result<Three, Full>
-        requires { (count ≤ max_arguments) × (ranges.count ≤ 3) }
+    fn push_functions(&mut self, domain: &[u16], ranges: Listed) -> Result<Listed, Full>
+        requires { length domain.now ≤ max_arguments }
         ensures keeps { Keeps self.old self.new }
-        ensures lists { Lists ranges.count self.new result
-            (push_functions (take count domain) (three_places ranges) (world self.old)) }
+        ensures lists { Lists self.new result
+            (push_functions domain.now (places ranges) (world self.old)) }
     {
-        if ranges.count == 0 {
-            return Ok(none());
+        let mut ids = ranges.ids;
+        for i in 0..ranges.count {
+            let range = ranges.ids[i];
+            ids[i] = self.push(FUNCTION_KIND, range, domain)?;
         }
-        let range = ranges.first;
-        let place = self.push(FUNCTION_KIND, range, domain, count)?;
-        let rest = self.push_functions(without_first(ranges), domain, count)?;
-        Ok(with_first(place, rest))
+        Ok(Listed {
+            ids,
+            count: ranges.count,
+        })
     }
 
     // A container of the list: the related one is interned.
-    fn related_generic(&mut self, op: ComplexSort, subsort: SortId, up: bool) -> Result<Three, Full>
+    fn related_generic(
+        &mut self,
+        op: ComplexSort,
+        subsort: SortId,
+        up: bool,
+    ) -> Result<Listed, Full>
         requires { Checked self.old.sorts.now self.old.lengths.sorts self.old.lengths.entries
             × (subsort.0 < self.old.lengths.sorts) }
         ensures keeps { Keeps self.old self.new }
-        ensures lists { Lists 3 self.new result
+        ensures lists { Lists self.new result
             (related_over (related_container up op) true subsort.0 (world self.old)) }
     {
         let Some(related_op) = related_container(op, up) else {
-            return Ok(none());
+            return Ok(Listed::of(&[]));
         };
         let mut interner = SortInterner {
             words: &mut *self.sorts,
@@ -271,7 +221,7 @@ impl Arena<'_> {
         };
         let id = interner.generic(related_op, subsort)?;
         self.lengths = with_counts(self.lengths, interner.counts);
-        Ok(only(InferSortId(id.0)))
+        Ok(Listed::of(&[InferSortId(id.0)]))
     }
 
     // A container node: the related one is a node.
@@ -280,20 +230,20 @@ impl Arena<'_> {
         op: ComplexSort,
         subsort: InferSortId,
         up: bool,
-    ) -> Result<Three, Full>
+    ) -> Result<Listed, Full>
         ensures keeps { Keeps self.old self.new }
-        ensures lists { Lists 3 self.new result
+        ensures lists { Lists self.new result
             (related_over (related_container up op) false subsort.0 (world self.old)) }
     {
         let Some(related_op) = related_container(op, up) else {
-            return Ok(none());
+            return Ok(Listed::of(&[]));
         };
-        let place = self.push(kind_of_op(related_op), subsort, [0u16; ARGUMENT_WORDS], 0)?;
-        Ok(only(place))
+        let place = self.push(kind_of_op(related_op), subsort, &[])?;
+        Ok(Listed::of(&[place]))
     }
 
     // An interned sort.
-    fn related_sort(&mut self, id: SortId, up: bool) -> Result<Option<Three>, Full>
+    fn related_sort(&mut self, id: SortId, up: bool) -> Result<Option<Listed>, Full>
         requires { NodesIn self.old × PlacedIn self.old id.0 × (id.0 < max_sorts) }
         ensures keeps { Keeps self.old self.new }
         ensures lists { ListsSome self.new result (related_head up id.0 (world self.old)) }
@@ -308,7 +258,7 @@ impl Arena<'_> {
                 range: _,
             } => Ok(None),
             ResolvedSort::Unit | ResolvedSort::Def(_) | ResolvedSort::TypeVar(_) => Ok(Some(
-                none(),
+                Listed::of(&[]),
             )),
         }
     }
@@ -328,7 +278,7 @@ impl Arena<'_> {
     }
 
     // By the head at the end of a place. Of a function the range is not asked about: that is for `related_function`.
-    fn related_head(&mut self, id: InferSortId, up: bool) -> Result<Option<Three>, Full>
+    fn related_head(&mut self, id: InferSortId, up: bool) -> Result<Option<Listed>, Full>
         requires { NodesIn self.old × PlacedIn self.old id.0 }
         ensures keeps { Keeps self.old self.new }
         ensures lists { ListsSome self.new result (related_head up id.0 (world self.old)) }
@@ -349,27 +299,30 @@ impl Arena<'_> {
     }
 
     // The functions over the ranges found.
-    fn over_function(&mut self, id: InferSortId, ranges: Three) -> Result<Three, Full>
-        requires { FunctionAt self.old.sorts.now self.old.nodes.now self.old.lengths id.0
-            × (ranges.count ≤ 3) }
+    fn over_function(&mut self, id: InferSortId, ranges: Listed) -> Result<Listed, Full>
+        requires { FunctionAt self.old.sorts.now self.old.nodes.now self.old.lengths id.0 }
         ensures keeps { Keeps self.old self.new }
-        ensures lists { Lists 3 self.new result
-            (over_function id.0 (three_places ranges) (world self.old)) }
+        ensures lists { Lists self.new result
+            (over_function id.0 (places ranges) (world self.old)) }
     {
         let places = self.places();
         let count = places.part_count(id) - 1;
         let domain = arguments(&places, id, count);
-        self.push_functions(ranges, domain, count)
+        self.push_functions(&domain[..count as usize], ranges)
     }
 
     // The functions over what was found for their final range, the innermost first.
-    fn over_functions(&mut self, functions: &[u16], count: u16, found: Three) -> Result<Three, Full>
-        requires { AllStand functions.now count (made (three_places found) (world self.old))
-            × (found.count ≤ 3)
+    fn over_functions(
+        &mut self,
+        functions: &[u16],
+        count: u16,
+        found: Listed,
+    ) -> Result<Listed, Full>
+        requires { AllStand functions.now count (made (places found) (world self.old))
             × (count ≤ length functions.now) }
         ensures keeps { Keeps self.old self.new }
-        ensures lists { Lists 3 self.new result
-            (outwards functions.now count (made (three_places found) (world self.old))) }
+        ensures lists { Lists self.new result
+            (outwards functions.now count (made (places found) (world self.old))) }
     {
         let mut over = found;
         for i in (0..count).rev() {
@@ -388,7 +341,7 @@ impl Arena<'_> {
         binds: &[u16],
         id: InferSortId,
         up: bool,
-    ) -> Result<Option<Three>, Full>
+    ) -> Result<Option<Listed>, Full>
         requires { ReadyIn self.old binds.now
             × PlacedIn self.old id.0
             × SixThere self.old.lengths
@@ -419,7 +372,7 @@ impl Arena<'_> {
         binds: &[u16],
         id: InferSortId,
         up: bool,
-    ) -> Result<Option<Three>, Full>
+    ) -> Result<Option<Listed>, Full>
         requires { ReadyIn self.old binds.now × PlacedIn self.old id.0 × SixThere self.old.lengths }
         ensures keeps { Keeps self.old self.new }
         ensures lists { ListsSome self.new result
@@ -440,7 +393,7 @@ impl Arena<'_> {
         &mut self,
         binds: &[u16],
         id: InferSortId,
-    ) -> Result<Option<Three>, Full>
+    ) -> Result<Option<Listed>, Full>
         requires { ReadyIn self.old binds.now × PlacedIn self.old id.0 × SixThere self.old.lengths }
         ensures keeps { Keeps self.old self.new }
         ensures lists { ListsSome self.new result
@@ -455,7 +408,7 @@ impl Arena<'_> {
         &mut self,
         binds: &[u16],
         id: InferSortId,
-    ) -> Result<Option<Three>, Full>
+    ) -> Result<Option<Listed>, Full>
         requires { ReadyIn self.old binds.now × PlacedIn self.old id.0 × SixThere self.old.lengths }
         ensures keeps { Keeps self.old self.new }
         ensures lists { ListsSome self.new result
@@ -466,11 +419,19 @@ impl Arena<'_> {
 }
 
 // What was listed, with the lengths then.
-fn related(listed: Result<Option<Three>, Full>, lengths: Lengths) -> Related
-    ensures { result ≡ as_related listed lengths }
+fn related(listed: Result<Option<Listed>, Full>, lengths: Lengths) -> Related
+    ensures { IsRelated listed lengths result }
 {
     match listed {
-        Ok(Some(places)) => Related::These(places, lengths),
+        Ok(Some(places)) => {
+            let three = Three {
+                first: places.ids[0],
+                second: places.ids[1],
+                third: places.ids[2],
+                count: places.count as u16,
+            };
+            Related::These(three, lengths)
+        }
         Ok(None) => Related::NoList(lengths),
         Err(Full::Sorts) => Related::Full(15, lengths),
         Err(Full::Nodes) => Related::Full(16, lengths),

@@ -4,6 +4,7 @@ use Rattle.resolved_sort.specs.Storage.{max_sorts}
 use Rattle.unification.specs.Nodes.{node_at}
 use Rattle.unification.specs.Checked.{Placed}
 use Rattle.infer_nodes.proofs.Apart as apart
+use Rattle.related_sorts.specs.Arena.{world}
 use Rattle.related_sorts.proofs.Laws as laws
 use Rattle.related_sorts.proofs.Ends as law
 use Rattle.related_sorts.proofs.Arena.related_head.Goals as goal
@@ -17,18 +18,16 @@ related_sort-requires c = let s = apart.is_sort_lem _ _ c.in-Sort.ensures _ refl
 
 pub returns-in_err-push_generic-in-Generic-clause-lists : goal.returns-in_err-push_generic-in-Generic-clause-lists
 returns-in_err-push_generic-in-Generic-clause-lists c = let n = apart.is_node _ _ c.in-Node.ensures _ refl in
-    laws.as_no_list _ _ _ _ _ (laws.same_err _ _ c.from_residual.ensures)
-    (law.node_container_related c.args.self.now.sorts.now c.args.self.now.nodes.now c.args.self.now.lengths c.requires.0 c.args.up c.args.id.0 c.requires.1 n.0 _ (c.node.ensures ∙ ap (node_at c.args.self.now.nodes.now) n.1) _ _ c.in-Generic.is _ _ _
-    (laws.by_answer _ _ _ _ _ _ c.in_err-push_generic-in-Generic.was c.push_generic.ensures.lists))
+    laws.listed_err _ _ _ (laws.same_err _ _ c.from_residual.ensures)
+    (laws.some_as _ _ _ c.in_err-push_generic-in-Generic.was c.push_generic.ensures.lists ∙ law.node_container_related c.args.self.now.sorts.now c.args.self.now.nodes.now c.args.self.now.lengths c.requires.0 c.args.up c.args.id.0 c.requires.1 n.0 _ (c.node.ensures ∙ ap (node_at c.args.self.now.nodes.now) n.1) _ _ c.in-Generic.is)
 
 pub returns-in-Sort-clause-lists : goal.returns-in-Sort-clause-lists
 returns-in-Sort-clause-lists c = let s = apart.is_sort_lem _ _ c.in-Sort.ensures _ refl in
-    law.head_of_the_same c.args.self.now.sorts.now c.args.self.now.nodes.now c.args.self.now.lengths c.args.up _ _ s.1 _ _ _ c.related_sort.ensures.lists
+    law.head_of_the_same (world c.args.self.now) c.args.up _ _ s.1 c.related_sort.ensures.lists
 
 pub returns-in_ok-push_generic-in-Generic-clause-lists : goal.returns-in_ok-push_generic-in-Generic-clause-lists
 returns-in_ok-push_generic-in-Generic-clause-lists c = let n = apart.is_node _ _ c.in-Node.ensures _ refl in
-    law.node_container_related c.args.self.now.sorts.now c.args.self.now.nodes.now c.args.self.now.lengths c.requires.0 c.args.up c.args.id.0 c.requires.1 n.0 _ (c.node.ensures ∙ ap (node_at c.args.self.now.nodes.now) n.1) _ _ c.in-Generic.is _ _ _
-    (laws.by_answer _ _ _ _ _ _ c.in_ok-push_generic-in-Generic.was c.push_generic.ensures.lists)
+    laws.some_as _ _ _ c.in_ok-push_generic-in-Generic.was c.push_generic.ensures.lists ∙ law.node_container_related c.args.self.now.sorts.now c.args.self.now.nodes.now c.args.self.now.lengths c.requires.0 c.args.up c.args.id.0 c.requires.1 n.0 _ (c.node.ensures ∙ ap (node_at c.args.self.now.nodes.now) n.1) _ _ c.in-Generic.is
 
 pub returns-in-Function-clause-lists : goal.returns-in-Function-clause-lists
 returns-in-Function-clause-lists c = let n = apart.is_node _ _ c.in-Node.ensures _ refl in

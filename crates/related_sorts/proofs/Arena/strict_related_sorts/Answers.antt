@@ -1,7 +1,6 @@
 -- By the head at the end of the place. Assumes nothing.
 use Rattle.std.proofs.Common.{◌∙◌}
 use Rattle.related_sorts.proofs.Lent.{end_there, kind_there, placed_there}
-use Rattle.related_sorts.proofs.Laws.{relates_as}
 use Rattle.related_sorts.proofs.Ends as ends
 use Rattle.related_sorts.proofs.Ranges as law
 use Rattle.related_sorts.proofs.Arena.strict_related_sorts.Goals as goal
@@ -19,15 +18,15 @@ related_function-requires c = (
 
 pub returns-then-kind_at-eq-FUNCTION_KIND-clause-lists : goal.returns-then-kind_at-eq-FUNCTION_KIND-clause-lists
 returns-then-kind_at-eq-FUNCTION_KIND-clause-lists c =
-    relates_as _ _ _ c.related_function.ensures.lists (ends.end_answers c.args.self.now.sorts.now c.args.self.now.nodes.now c.args.binds.now c.args.self.now.lengths c.requires.0 c.args.up c.args.id.0 _ c.requires.1 (end_there c.args.self.now c.args.binds.now c.bindings.result c.bindings.ensures _ _ c.shallow_normalize-end.ensures))
+    c.related_function.ensures.lists ∙ (ends.end_answers c.args.self.now.sorts.now c.args.self.now.nodes.now c.args.binds.now c.args.self.now.lengths c.requires.0 c.args.up c.args.id.0 _ c.requires.1 (end_there c.args.self.now c.args.binds.now c.bindings.result c.bindings.ensures _ _ c.shallow_normalize-end.ensures))
 
 pub related_head-requires : goal.related_head-requires
 related_head-requires c = (c.requires.0.nodes, (ends.end_placed c.args.self.now.sorts.now c.args.self.now.nodes.now c.args.binds.now c.args.self.now.lengths c.requires.0 c.args.up c.args.id.0 _ c.requires.1 (end_there c.args.self.now c.args.binds.now c.bindings.result c.bindings.ensures _ _ c.shallow_normalize-end.ensures)))
 
 pub returns-clause-lists : goal.returns-clause-lists
 returns-clause-lists c =
-    relates_as _ _ _ c.related_head.ensures.lists
-    (law.by_head c.args.self.now.sorts.now c.args.self.now.nodes.now c.args.binds.now c.args.self.now.lengths c.requires.0 c.args.up _
+    c.related_head.ensures.lists
+    ∙ (law.by_head c.args.self.now.sorts.now c.args.self.now.nodes.now c.args.binds.now c.args.self.now.lengths c.requires.0 c.args.up _
     (ends.end_placed c.args.self.now.sorts.now c.args.self.now.nodes.now c.args.binds.now c.args.self.now.lengths c.requires.0 c.args.up c.args.id.0 _ c.requires.1 (end_there c.args.self.now c.args.binds.now c.bindings.result c.bindings.ensures _ _ c.shallow_normalize-end.ensures))
     (ends.end_of_end c.args.self.now.sorts.now c.args.self.now.nodes.now c.args.binds.now c.args.self.now.lengths c.requires.0 c.args.up c.args.id.0 _ c.requires.1 (end_there c.args.self.now c.args.binds.now c.bindings.result c.bindings.ensures _ _ c.shallow_normalize-end.ensures))
     (λ e. c.if-kind_at-eq-FUNCTION_KIND.false ((kind_there c.args.self.now c.places.result c.places.ensures _ _ c.kind_at.ensures) ∙ e))
