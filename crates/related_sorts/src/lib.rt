@@ -24,7 +24,7 @@ ghost use Rattle.related_sorts.specs.Inner.Ranges.{FinalRange, SixThere};
 
 use infer_nodes::{Bindings, Places, counts_of, node, taken_apart, with_counts};
 use resolved_sort::{ARGUMENT_WORDS, ComplexSort, FUNCTION_KIND, ResolvedSort, Sort, SortId};
-use sort_interner::{SortInterner, get, kind_of_op, put_row, start_of};
+use sort_interner::{SortInterner, get, put_row, start_of};
 use unification::{
     FIRST_NODE, Full, InferSort, InferSortId, Lengths, MAX_NODE_ENTRIES, MAX_PLACES,
     NODE_ENTRIES_AT, NODE_NUMBERS, NodeId, Place, Related, Three,
@@ -238,7 +238,7 @@ impl Arena<'_> {
         let Some(related_op) = related_container(op, up) else {
             return Ok(Listed::of(&[]));
         };
-        let place = self.push(kind_of_op(related_op), subsort, &[])?;
+        let place = self.push(u16::from(related_op), subsort, &[])?;
         Ok(Listed::of(&[place]))
     }
 

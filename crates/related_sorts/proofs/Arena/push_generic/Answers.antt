@@ -7,4 +7,4 @@ returns-in_default-clause-lists c = law.no_container c.args.up c.args.op c.relat
 
 pub returns-clause-lists : goal.returns-clause-lists
 returns-clause-lists c = law.container_pushed c.args.up c.args.op c.related_container.result c.related_container.ensures _ c.in-Some.is c.args.subsort.0 c.args.self.now.sorts.now c.args.self.now.nodes.now c.args.self.now.lengths
-    _ _ _ c.push.result _ c.kind_of_op.ensures c.push.ensures.pushed _ c.in_ok-place.was c.of-2.result c.of-2.ensures
+    _ _ _ c.push.result _ c.from.ensures c.push.ensures.pushed _ c.in_ok-place.was c.of-2.result c.of-2.ensures
