@@ -6,11 +6,10 @@ use mathlib.Core.Path.{◌≡◌, refl, sym, ◌∙◌, ap, subst}
 use mathlib.Core.Bool.{Bool, true}
 use mathlib.Core.List.{List}
 use mathlib.Core.Option.{some}
-use mathlib.Core.Logic.{◌⊎◌, inl, inr}
+use mathlib.Core.Logic.{inl, inr}
 use native.Mathlib.Omega.{arith}
 use Prim.Native.Nat.{ℕ}
 use Rattle.std.specs.Prelude.{Ok, Err}
-use Rattle.std.specs.Prelude as Rust
 use Rattle.resolved_sort.specs.declared.Refusal.{Refusal}
 use Rattle.resolved_sort.specs.declared.Refusal.TheVariants.{SortsFull}
 use Rattle.resolved_sort.specs.Tree.{Tree}

@@ -4,22 +4,24 @@ use mathlib.Core.Path.{◌≡◌, refl, sym, ◌∙◌, ap, subst}
 use mathlib.Core.Bool.{Bool, true, ◌&&◌, and-eq-true_iff}
 use mathlib.Core.List.{List, [], ◌∷◌}
 use Prim.Native.Nat.{ℕ, ◌-◌, ◌*◌, ◌<◌, ◌≤◌}
+use native.Mathlib.Omega.{arith}
 use lib.ListN.{length}
 use lib.Dec.{leb, ltb}
 use borrow.Author.Tests.{ltb-true, leb-true, lt-ltb, le-ltb, le-leb, lt-leb}
 use Rattle.resolved_sort.specs.declared.Refusal.TheVariants.{NotInList, TooShort}
 use Rattle.resolved_sort.specs.Checks.{Tested}
-use Rattle.std.specs.Prelude.{Result, Ok, Err}
-use Rattle.resolved_sort.specs.declared.Joined.{Joined}
+use Rattle.std.specs.Prelude.{Option, Some, None, Result, Ok, Err}
+use Rattle.resolved_sort.specs.declared.NoRoom.{NoRoom}
+use Rattle.resolved_sort.specs.declared.SortId.{SortId}
 use Rattle.resolved_sort.specs.declared.Refusal.{Refusal}
 use Rattle.resolved_sort.specs.declared.Refusal.TheVariants.{SortsFull}
 use Rattle.resolved_sort.specs.declared.Counts.{Counts}
 use Rattle.resolved_sort.specs.Tree.{Tree}
 use Rattle.resolved_sort.specs.Interning.{Outcome, made, nothing, full, make}
-use Rattle.resolved_sort.specs.Storage.{max_sorts, max_entries, full_length, entries_at, sorts_of}
+use Rattle.resolved_sort.specs.Storage.{max_sorts, max_entries, full_length, entries_at, sorts_of, given_back}
 use Rattle.resolved_sort.specs.Checks.{within_lent, rows_fine, no_two_equal, in_list, at_ceiling, Check, first_failing, sort_checks, pair_checks}
-use Rattle.resolved_sort.specs.Entries.{refused_or, tree_at, stored, Bounded, sorts_left, sorts_left_by, bounded}
-use Rattle.resolved_sort.specs.Rows.{stored_at}
+use Rattle.resolved_sort.specs.Entries.{refused_or, tree_at, Stored, stored, Bounded, SortsLeft, sorts_left, sorts_left_by, bounded}
+use Rattle.resolved_sort.specs.Rows.{Checked, left_at}
 use Rattle.resolved_sort.specs.Bounds.{Asked, bound_at}
 use Rattle.resolved_sort.proofs.FirstFailing.{first_fails, first_passes, append_fails, append_passes, cons_passes}
 use Rattle.resolved_sort.proofs.Reached.{no_confusion}
@@ -28,6 +30,7 @@ use Rattle.resolved_sort.specs.Growing.{SortsKept, InTree}
 use Rattle.resolved_sort.proofs.Kept.{make_kept}
 use Rattle.resolved_sort.proofs.Stored.{look_whole}
 use Rattle.resolved_sort.proofs.GivenBack.{made_is_given_back}
+use Rattle.resolved_sort.proofs.Unchanged.{length_after}
 use Rattle.sort_entries.specs.Inner.Kept.{pair_tested, kept_or_given_back}
 
 module _ (ws : List ℕ) (n e a b : ℕ) (x : first_failing (pair_checks ws n e a b) ≡ Ok tt) where
@@ -108,8 +111,8 @@ module _ (ws : List ℕ) (n e a b : ℕ) where
           unfolding pair_tested
           all_pass = rw none_failed
 
-          pub counts_fit : (n ≤ max_sorts) × (e ≤ max_entries)
-          counts_fit = let k = sorts_asked ws n e a b none_failed in (k.checked.sorts, k.checked.entries)
+          pub list_checked : Checked ws n e
+          list_checked = (sorts_asked ws n e a b none_failed).checked
 
 -- what the checks of an entry found
 module _ (ws : List ℕ) (n e a b : ℕ) where
@@ -148,10 +151,11 @@ module _ (ws : List ℕ) (n e a b : ℕ) where
     pub asked_given : Asked ws n e a b
     asked_given = sorts_asked ws n e a b none_fails
 
-    -- an answer about the list of these counts
-    pub answered : {A : Type 0} (f : ℕ → A) (x : A) → x ≡ f k.sorts
-        → Ok x ≡ refused_or (first_failing (pair_checks ws n e a b)) Err (Ok (f n))
-    answered f x q = ap Ok (q ∙ sym (ap (λ (c : Counts). f c.sorts) (passed_with k h).1)) ∙ rw none_fails
+    -- an answer about the list of these words and counts
+    pub answered : {A : Type 0} (f : List ℕ → ℕ → A) {us : List ℕ} → us ≡ ws → (x : A) → x ≡ f us k.sorts
+        → Ok x ≡ refused_or (first_failing (pair_checks ws n e a b)) Err (Ok (f ws n))
+    answered f u x q =
+        ap Ok (q ∙ ap (λ ws. f ws k.sorts) u ∙ sym (ap (λ (c : Counts). f ws c.sorts) (passed_with k h).1)) ∙ rw none_fails
 
 -- join and meet: what was made stays where they answered, and is given back where room ended
 module _ (up : Bool) (ws : List ℕ) (n e a b : ℕ) (k : Asked ws n e a b) where
@@ -163,19 +167,49 @@ module _ (up : Bool) (ws : List ℕ) (n e a b : ℕ) (k : Asked ws n e a b) wher
       make_kept ws n e up (tree_at ws n a) (tree_at ws n b) (sorts_of ws n e) (grown_none ws n e k.checked)
       (look_whole ws n e k.checked a k.lhs) (look_whole ws n e k.checked b k.rhs)
 
-  by_outcome : (O : Outcome Tree) → SortsKept ws n e InTree (sorts_of ws n e) O
-      → kept_or_given_back (stored ws n e O).words n e (stored ws n e O).answer ≡ sorts_left_by ws n e (stored ws n e O) (stored ws n e O).answer
-  unfolding SortsKept stored kept_or_given_back sorts_left_by
-  by_outcome (made v S) h = refl
-  by_outcome (nothing S) h = refl
-  by_outcome (full S) h = ap (λ us. sorts_left us (Err SortsFull)) (made_is_given_back ws n e k.checked S h.0)
+  given_back_left : (O : Outcome Tree) → SortsKept ws n e InTree (sorts_of ws n e) O → given_back n e (stored ws n e O).words ≡ given_back n e ws
+  unfolding SortsKept stored
+  given_back_left (made v S) h = made_is_given_back ws n e k.checked S h.0
+  given_back_left (nothing S) h = made_is_given_back ws n e k.checked S h.0
+  given_back_left (full S) h = made_is_given_back ws n e k.checked S h.0
 
-  pub bound_answered : (vs : List ℕ) (j : Joined) → stored_at vs j ≡ bound_at up ws n e a b
-      → (us : List ℕ) (r : Bounded) → sorts_left us r ≡ kept_or_given_back vs n e j
-      → first_failing (pair_checks ws n e a b) ≡ Ok tt → sorts_left us r ≡ bounded up ws n e a b
+  length_left : (O : Outcome Tree) → SortsKept ws n e InTree (sorts_of ws n e) O → length (stored ws n e O).words ≡ length ws
+  unfolding SortsKept stored
+  length_left (made v S) h = length_after ws n e k.checked S h.0
+  length_left (nothing S) h = length_after ws n e k.checked S h.0
+  length_left (full S) h = length_after ws n e k.checked S h.0
+
+  words_left : (vs : List ℕ) (l : Counts) (r : Result (Option SortId) NoRoom) → (left_at vs l r).words ≡ vs
+  words_left vs l (Ok (Some id)) = refl
+  words_left vs l (Ok None) = refl
+  words_left vs l (Err x) = refl
+
+  pub long_left : (vs : List ℕ) (l : Counts) (r : Result (Option SortId) NoRoom) → left_at vs l r ≡ bound_at up ws n e a b
+      → full_length ≤ length vs
+  unfolding bound_at
+  long_left vs l r q =
+      let same : length vs ≡ length ws =
+      ap length (sym (words_left vs l r) ∙ ap (λ s. s.words) q) ∙ length_left outcome outcome_kept in
+      omega (arith, same, k.checked.long)
+
+  abbrev given : Counts
+  given = record { sorts = n; entries = e }
+
+  kept_left : (vs : List ℕ) (l : Counts) (r : Result (Option SortId) NoRoom) (s : Stored) → left_at vs l r ≡ s
+      → given_back n e s.words ≡ given_back n e ws → kept_or_given_back vs l given r ≡ sorts_left_by ws n e s s.answer
+  unfolding kept_or_given_back sorts_left_by
+  kept_left vs l (Ok (Some id)) s q g = ap (λ s. sorts_left_by ws n e s s.answer) q
+  kept_left vs l (Ok None) s q g = ap (λ s. sorts_left_by ws n e s s.answer) q
+  kept_left vs l (Err x) s q g =
+      ap (λ us. sorts_left us (Err SortsFull)) (ap (λ s. given_back n e s.words) q ∙ g)
+      ∙ ap (λ s. sorts_left_by ws n e s s.answer) q
+
+  pub bound_answered : (vs : List ℕ) (l : Counts) (r : Result (Option SortId) NoRoom) → left_at vs l r ≡ bound_at up ws n e a b
+      → (us : List ℕ) (x : Bounded) → sorts_left us x ≡ kept_or_given_back vs l given r
+      → first_failing (pair_checks ws n e a b) ≡ Ok tt → sorts_left us x ≡ bounded up ws n e a b
   unfolding bound_at bounded
-  bound_answered vs j q us r g x =
-      g ∙ (ap (λ s. kept_or_given_back s.words n e s.answer) q ∙ (by_outcome outcome outcome_kept ∙ rw x))
+  bound_answered vs l r q us x g f =
+      g ∙ (kept_left vs l r (stored ws n e outcome) q (given_back_left outcome outcome_kept) ∙ rw f)
 
 -- as the code of both meets them, with the counts that its checks answered
 module _ (up : Bool) (ws : List ℕ) (n e a b : ℕ) where
@@ -185,9 +219,15 @@ module _ (up : Bool) (ws : List ℕ) (n e a b : ℕ) where
   bound_refused r h x q = rw (q, refusal_is ws n e a b r h)
 
   module _ (k : Counts) (h : Ok k ≡ pair_tested ws n e a b) where
-    pub bound_answered_with : (vs : List ℕ) (j : Joined) → stored_at vs j ≡ bound_at up ws k.sorts k.entries a b
-        → (us : List ℕ) (r : Bounded) → sorts_left us r ≡ kept_or_given_back vs n e j → sorts_left us r ≡ bounded up ws n e a b
-    bound_answered_with vs j q us r g =
-        bound_answered up ws n e a b (asked_given ws n e a b k h) vs j
-        (q ∙ sym (ap (λ (c : Counts). bound_at up ws c.sorts c.entries a b) (counted ws n e a b k h))) us r g
+    pub bound_answered_with : (vs : List ℕ) (l : Counts) (r : Result (Option SortId) NoRoom)
+        → left_at vs l r ≡ bound_at up ws k.sorts k.entries a b
+        → (us : List ℕ) (x : Bounded) → sorts_left us x ≡ kept_or_given_back vs l k r → sorts_left us x ≡ bounded up ws n e a b
+    bound_answered_with vs l r q us x g =
+        bound_answered up ws n e a b (asked_given ws n e a b k h) vs l r
+        (q ∙ sym (ap (λ (c : Counts). bound_at up ws c.sorts c.entries a b) (counted ws n e a b k h))) us x
+        (g ∙ sym (ap (λ (c : Counts). kept_or_given_back vs l c r) (counted ws n e a b k h)))
         (none_fails ws n e a b k h)
+
+-- what the lent words end as is what the interner held last
+pub left_in : {us vs : List ℕ} {x : Bounded} {s : SortsLeft} → vs ≡ us → sorts_left us x ≡ s → sorts_left vs x ≡ s
+left_in {x = x} e f = ap (λ ws. sorts_left ws x) e ∙ f

@@ -1,11 +1,11 @@
 -- The packed answers tell all answers of the sorts' entries apart. Whatever an entry is given, the numbers of its answer are within their
 -- bounds, by the first failing check and by what the answer says; such numbers fit their fields; so answers that are packed alike have the
 -- same values or the same refusal, and by their cases they are the same. Assumes nothing.
-use mathlib.Core.Path.{◌≡◌, refl, sym, ◌∙◌, ap, ap₂, subst}
+use mathlib.Core.Path.{◌≡◌, refl, sym, ◌∙◌, ap, subst}
 use mathlib.Core.Bool.{Bool, true, false}
 use mathlib.Core.List.{List, [], ◌∷◌}
 use mathlib.Core.Option.{Option, none, some}
-use mathlib.Core.Logic.{◌⊎◌, inl, inr}
+use mathlib.Core.Logic.{inl, inr}
 use Prim.Native.Nat.{ℕ}
 use native.Mathlib.Omega.{arith}
 use native.Mathlib.Nat.{min-le_left}
@@ -17,12 +17,11 @@ use Rattle.std.specs.declared.cmp.Ordering.TheVariants.{Less, Equal, Greater}
 use Rattle.resolved_sort.specs.declared.Counts.{Counts}
 use Rattle.resolved_sort.specs.declared.SortId.{SortId}
 use Rattle.resolved_sort.specs.declared.Refusal.{Refusal}
-use Rattle.resolved_sort.specs.declared.Refusal.TheVariants.{SortsFull}
 use Rattle.resolved_sort.specs.declared.Steps.{Steps}
 use Rattle.resolved_sort.specs.Tree.{Tree}
 use Rattle.resolved_sort.specs.Order.{ordering, Steps as StepsOf, steps_of, map₁, distance, most_steps, materializable}
 use Rattle.resolved_sort.specs.Exact.{exact, stopped}
-use Rattle.resolved_sort.specs.Checks.{Tested, code_of, first_failing, sort_checks, pair_checks, Numbered}
+use Rattle.resolved_sort.specs.Checks.{Tested, first_failing, pair_checks, Numbered}
 use Rattle.resolved_sort.specs.Entries.{tree_at, refused_or, Bounded}
 use Rattle.resolved_sort.specs.Entries.{compared, measured, materialized, bounded}
 use Rattle.resolved_sort.proofs.Distance.{distance_stops_once}
@@ -30,7 +29,7 @@ use Rattle.entry_answers.specs.Packing.{FitFields, AnswerWithin}
 use Rattle.entry_answers.proofs.Packing.{Fit, answers_told}
 use Rattle.entry_answers.proofs.SortsLeft.{counts_within}
 use Rattle.sort_entries.specs.Codes.{order_code, order_values, distance_values, yes_values, bound_values}
-use Rattle.sort_entries.specs.Codes.{ComparedWithin, StepsWithin, MeasuredWithin, MaterializedWithin, BoundWithin, BoundedWithin}
+use Rattle.sort_entries.specs.Codes.{ComparedWithin, StepsWithin, MeasuredWithin, MaterializedWithin, BoundedWithin}
 use Rattle.sort_entries.specs.Packed.{compared_widths, measured_widths, materialized_widths, bounded_widths}
 use Rattle.sort_entries.specs.Packed.{pack_compared, pack_measured, pack_materialized, pack_bounded, packed_sorts, pack_sorts_left}
 use Rattle.sort_entries.specs.Answered.{BoundSays}

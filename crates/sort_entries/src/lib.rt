@@ -2,7 +2,7 @@
 // `requires`: whatever a caller hands in, the answer and the storage at exit are the defined ones.
 #![tactic(auto)]
 
-ghost use Rattle.std.specs.Prelude.{◌≡◌, true, false, Ok, ◌+◌, ◌*◌, ◌<◌, ◌≤◌, length};
+ghost use Rattle.std.specs.Prelude.{◌≡◌, true, false, Ok, Err, MatchResult, ◌+◌, ◌*◌, ◌<◌, ◌≤◌, length};
 ghost use Rattle.resolved_sort.specs.Storage.{max_sorts, max_entries, full_length};
 ghost use Rattle.resolved_sort.specs.Entries.{compared, measured, materialized, bounded, sorts_left};
 ghost use Rattle.sort_entries.specs.Inner.Kept.{pair_tested, kept_or_given_back};
@@ -10,21 +10,24 @@ ghost use Rattle.sort_entries.specs.Packed.{pack_compared, pack_measured, pack_m
 ghost use Rattle.sort_entries.specs.Packed.{packed_sorts, pack_sorts_left};
 
 use entry_answers::pack;
-use resolved_sort::{Counts, Joined, Refusal, SORT_WORDS, SortId, Steps};
+use resolved_sort::{Counts, NoRoom, Refusal, SORT_WORDS, SortId, Steps};
 use sort_checks::test_sorts;
-use sort_interner::{Sorts, give_back};
+use sort_interner::{SortInterner, Sorts};
 use std::cmp::Ordering;
 use words::{BIT_8, BIT_16, BIT_24, BIT_32, BIT_48};
 
-// Checks 1 to 4, 12 and 14 of a question about two sorts: the first that fails, or the counts given.
+// Checks 1 to 4, 12 and 14 of a question about two sorts: the first that fails, or the list, which then has both.
 fn test_pair(
     sorts: &[u16],
     sort_count: usize,
     entry_count: usize,
     lhs: SortId,
     rhs: SortId,
-) -> Result<Counts, Refusal>
-    ensures { result ≡ pair_tested sorts.now sort_count entry_count lhs.0 rhs.0 }
+) -> Result<Sorts<'_>, Refusal>
+    ensures { MatchResult result
+        (λ pair. (pair.words.now ≡ sorts.now)
+        × (Ok pair.counts ≡ pair_tested sorts.now sort_count entry_count lhs.0 rhs.0))
+        (λ refusal. Err refusal ≡ pair_tested sorts.now sort_count entry_count lhs.0 rhs.0) }
 {
     test_sorts(sorts, sort_count, entry_count)?;
     if sort_count <= (lhs.0 as usize) || sort_count <= (rhs.0 as usize) {
@@ -33,9 +36,13 @@ fn test_pair(
     if sorts.len() < SORT_WORDS {
         return Err(Refusal::TooShort);
     }
-    Ok(Counts {
+    let counts = Counts {
         sorts: sort_count as u16,
         entries: entry_count as u16,
+    };
+    Ok(Sorts {
+        words: sorts,
+        counts,
     })
 }
 
@@ -51,11 +58,7 @@ pub fn partial_cmp(
 ) -> Result<Option<Ordering>, Refusal>
     ensures { result ≡ compared sorts.now sort_count entry_count lhs.0 rhs.0 }
 {
-    let counts = test_pair(sorts, sort_count, entry_count, lhs, rhs)?;
-    let sorts = Sorts {
-        words: sorts,
-        counts,
-    };
+    let sorts = test_pair(sorts, sort_count, entry_count, lhs, rhs)?;
     Ok(sort_order::partial_cmp(&sorts, lhs, rhs))
 }
 
@@ -70,11 +73,7 @@ pub fn widening_distance(
 ) -> Result<Option<Steps>, Refusal>
     ensures { result ≡ measured sorts.now sort_count entry_count from.0 to.0 }
 {
-    let counts = test_pair(sorts, sort_count, entry_count, from, to)?;
-    let sorts = Sorts {
-        words: sorts,
-        counts,
-    };
+    let sorts = test_pair(sorts, sort_count, entry_count, from, to)?;
     Ok(sort_order::widening_distance(&sorts, from, to))
 }
 
@@ -89,34 +88,50 @@ pub fn is_materializable(
 ) -> Result<bool, Refusal>
     ensures { result ≡ materialized sorts.now sort_count entry_count from.0 to.0 }
 {
-    let counts = test_pair(sorts, sort_count, entry_count, from, to)?;
-    let sorts = Sorts {
-        words: sorts,
-        counts,
-    };
+    let sorts = test_pair(sorts, sort_count, entry_count, from, to)?;
     Ok(sort_order::is_materializable(&sorts, from, to))
 }
 
-// What an entry answers after join or meet: an answered one keeps what was made, one that ran out
-// of room gives it back.
+// What an entry answers after join or meet, which began with these counts: an answered one keeps what was made, one
+// that ran out of room gives it back.
 #[tactic(auto, unfolding(crate::specs::Inner::Kept::kept_or_given_back))]
 fn kept_or_given_back(
+    interner: &mut SortInterner,
+    counts: Counts,
+    bound: Result<Option<SortId>, NoRoom>,
+) -> Result<(Option<SortId>, Counts), Refusal>
+    requires { (counts.sorts ≤ max_sorts)
+        × (counts.entries ≤ max_entries)
+        × (full_length ≤ length interner.old.words.now) }
+    ensures same_reference { interner.new.words.ghost_name ≡ interner.old.words.ghost_name }
+    ensures left { sorts_left interner.new.words.now result
+        ≡ kept_or_given_back interner.old.words.now interner.old.counts counts bound }
+{
+    if bound.is_err() {
+        interner.give_back(counts);
+    }
+    Ok((bound?, interner.counts))
+}
+
+// Join (up) or meet of two sorts, as an entry.
+fn bound(
     sorts: &mut [u16],
     sort_count: usize,
     entry_count: usize,
-    joined: Joined,
+    up: bool,
+    lhs: SortId,
+    rhs: SortId,
 ) -> Result<(Option<SortId>, Counts), Refusal>
-    requires { (sort_count ≤ max_sorts) × (entry_count ≤ max_entries) × (full_length ≤ length sorts.old) }
-    ensures { sorts_left sorts.new result ≡ kept_or_given_back sorts.old sort_count entry_count joined }
+    ensures { sorts_left sorts.new result
+        ≡ bounded up sorts.old sort_count entry_count lhs.0 rhs.0 }
 {
-    match joined {
-        Joined::At(id, made) => Ok((Some(id), made)),
-        Joined::Nothing(made) => Ok((None, made)),
-        Joined::Full => {
-            give_back(sorts, sort_count, entry_count);
-            Err(Refusal::SortsFull)
-        }
-    }
+    let counts = test_pair(sorts, sort_count, entry_count, lhs, rhs)?.counts;
+    let mut interner = SortInterner {
+        words: sorts,
+        counts,
+    };
+    let bound = sort_bounds::bound(&mut interner, up, lhs, rhs);
+    kept_or_given_back(&mut interner, counts, bound)
 }
 
 // The least common supersort of two sorts.
@@ -131,9 +146,7 @@ pub fn join(
     ensures { sorts_left sorts.new result
         ≡ bounded true sorts.old sort_count entry_count lhs.0 rhs.0 }
 {
-    let counts = test_pair(sorts, sort_count, entry_count, lhs, rhs)?;
-    let joined = sort_bounds::lent::join(sorts, counts, lhs, rhs);
-    kept_or_given_back(sorts, sort_count, entry_count, joined)
+    bound(sorts, sort_count, entry_count, true, lhs, rhs)
 }
 
 // The greatest common subsort of two sorts.
@@ -148,9 +161,7 @@ pub fn meet(
     ensures { sorts_left sorts.new result
         ≡ bounded false sorts.old sort_count entry_count lhs.0 rhs.0 }
 {
-    let counts = test_pair(sorts, sort_count, entry_count, lhs, rhs)?;
-    let joined = sort_bounds::lent::meet(sorts, counts, lhs, rhs);
-    kept_or_given_back(sorts, sort_count, entry_count, joined)
+    bound(sorts, sort_count, entry_count, false, lhs, rhs)
 }
 
 // The values of an answer in their fields, above a code of 0.

@@ -1,22 +1,21 @@
 -- Refused with the first failing check; else the question is asked of a checked list. Assumes nothing.
-use Rattle.std.proofs.Common.{rules}
+use Rattle.std.proofs.Common.{◌∙◌}
 use Rattle.resolved_sort.specs.Entries.{compared, tree_at}
 use Rattle.resolved_sort.specs.Order.{ordering}
+use Rattle.resolved_sort.proofs.Testing.{handed_on}
 use Rattle.sort_entries.proofs.Laws as law
 use Rattle.sort_entries.proofs.partial_cmp.Goals as goal
 
-pub returns-in_err-counts : goal.returns-in_err-counts
+pub returns-in_err-sorts : goal.returns-in_err-sorts
 unfolding compared
-returns-in_err-counts c = search (rules, law.refused_with)
-
-pub invariant_of-sorts : goal.invariant_of-sorts
-invariant_of-sorts c = record { checked = (law.asked _ _ _ _ _ _ c.in_ok-counts.ensures).checked }
+returns-in_err-sorts c =
+    handed_on _ _ c.from_residual.ensures.1 ∙ law.refused_with _ _ _ _ _ _ _ c.in_err-sorts.ensures
 
 pub partial_cmp-requires : goal.partial_cmp-requires
-partial_cmp-requires c = let k = law.asked _ _ _ _ _ _ c.in_ok-counts.ensures in (k.lhs, k.rhs)
+partial_cmp-requires c = let k = law.asked _ _ _ _ _ _ c.in_ok-sorts.ensures.1 in (k.lhs, k.rhs)
 
 pub returns : goal.returns
 unfolding compared
 returns c =
     let a = c.args in
-    law.answered _ _ _ _ _ _ c.in_ok-counts.ensures (λ n. ordering (tree_at a.sorts.now n a.lhs.0) (tree_at a.sorts.now n a.rhs.0)) _ c.partial_cmp.ensures
+    law.answered _ _ _ _ _ _ c.in_ok-sorts.ensures.1 (λ ws n. ordering (tree_at ws n a.lhs.0) (tree_at ws n a.rhs.0)) c.in_ok-sorts.ensures.0 _ c.partial_cmp.ensures
