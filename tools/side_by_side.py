@@ -49,29 +49,35 @@ def things(tree, named):
                 if not (item.kind == "fn" and ("traits", f"{parts[1]}::{module}{item.place}") in found):
                     add(parts[1], kind, key, item.head)
         elif path.endswith(".antt"):
-            stem = ".".join(parts[1:])[:-5]
             for law in source.declared(text):
-                key = f"{stem}.{law.name}"
+                key = ".".join(parts[1:])[:-5] + "." + law.name
                 statement = "\n".join(law.modules + (law.text if law.kind or parts[2] == "specs" else law.head,))
                 if parts[2] == "specs":
                     add(parts[1], "definitions", key, statement)
-                elif (law.name, "") in named or (law.name, parts[-1][:-5]) in named:
+                elif ": goal." not in law.head and named(law.name, parts[1], parts[-1][:-5]):
                     add(parts[1], "laws", key, statement)
                 else:
                     inner[parts[1]][law.name, same(statement)] += 1
     return found, inner
 
 
-def names_of_documents(trees):
-    """Names that the documents of both states write in backquotes: (name, "") of one with an underscore, (name, File) of one beside its file."""
-    out = set()
+def named_in_documents(trees):
+    """Whether a document of one of the states names a law: in backquotes, beside its file; or, of a name of several words, in a line or below a
+    heading that names its crate, or where one crate alone has the name."""
+    beside, owners = collections.defaultdict(set), collections.defaultdict(set)
     for tree in trees:
         for path, text in tree.items():
+            if path.endswith(".antt"):
+                for law in source.declared(text):
+                    owners[law.name].add(path.split("/")[1])
+            heading = set()
             for line in text.split("\n") if DOCS.fullmatch(path) else []:
-                names = re.findall(r"`([^\W\d][\w']*)`", line)
-                out.update((name, "") for name in names if "_" in name)
-                out.update((name, stem) for name in names for stem in re.findall(r"(\w+)\.antt", line))
-    return out
+                words = set(re.findall(r"\w+", line))
+                heading = words if line.startswith("#") else heading
+                for name in re.findall(r"`([^\W\d][\w']*)`", line):
+                    beside[name] |= words | heading
+    return lambda name, crate, file: name in beside and (
+        file in beside[name] or "_" in name and (crate in beside[name] or len(owners[name]) == 1))
 
 
 def moved():
@@ -125,7 +131,7 @@ def beside(old, new):
     for what, i, j, k, m in difflib.SequenceMatcher(None, [same(x) for x in a], [same(x) for x in b], False).get_opcodes():
         if what != "equal":
             lines += ["- " + x for x in a[i:j]] + ["+ " + x for x in b[k:m]]
-        elif m - k > 2 * KEPT:
+        elif m - k > 3 * KEPT:
             lines += ["  " + x for x in b[k:k + KEPT]] + [f"  .. {m - k - 2 * KEPT} lines as before"] + ["  " + x for x in b[m - KEPT:m]]
         else:
             lines += ["  " + x for x in b[k:m]]
@@ -145,7 +151,7 @@ PAGE = """# Old and new, side by side
 What `python3 tools/side_by_side.py` prints, of {old} and of {new}:
 by crate each public function or method with its clauses, each public type (with its ghost fields), trait (with what impls say for its ghost items) and constant, each definition of specs/,
 and each law of proofs/ that README or docs/ name, where it differs. A line with - is the old text, one with + the new, one with neither stands in
-both; of more than six such lines in a row only the ends are shown. Comments, attributes and bodies of functions are left out, and so is what differs
+both; of more than nine such lines in a row only the ends are shown. Comments, attributes and bodies of functions are left out, and so is what differs
 in layout alone or by a comma or semicolon before a closing bracket; nothing else is. A law is a statement, with the modules around it, and no proof.
 What took the place of another name is told by the name itself or by tools/moved.tsv. docs/DESIGN-PASS.md says the reasons by crate.
 
@@ -182,10 +188,13 @@ def main(words):
     with open(os.path.join(HERE, "..", "docs", "DESIGN-PASS.md"), encoding="utf-8") as page:
         first = page.readline().strip()
     trees = [source.files(words[0] if words else first), source.files(words[1] if len(words) > 1 else None)]
-    named = names_of_documents(trees)
+    named = named_in_documents(trees)
     (old, old_inner), (new, new_inner) = (things(tree, named) for tree in trees)
     hand = moved()
     pairs, fresh = pair(old, new, hand)
+    for name, _, _ in hand:
+        if not any(fnmatch.fnmatchcase(key, name) for _, key in old):
+            print(f"moved.tsv: {name} was not there", file=sys.stderr)
     if only_unsaid:
         print("\n".join(f"{thing.kind} {thing.key}" for thing, to, names, why in pairs if not to and not why))
         return
