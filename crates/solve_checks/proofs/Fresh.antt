@@ -1,25 +1,32 @@
 -- Numbers marked one after another, from no marks on, are marked once each exactly if no two of them are equal: a number below the length of the marks is
 -- marked at its place, and at no other. By induction on the numbers. Assumes nothing.
-use mathlib.Core.Path.{◌≡◌, refl, sym, ap, ap₂, ◌∙◌}
+use mathlib.Core.Path.{◌≡◌, refl, sym, subst, ap, ap₂, ◌∙◌}
 use mathlib.Core.Bool.{Bool, true, false, not, cond, ◌&&◌, and-false, and_assoc, and-eq-true_iff}
 use mathlib.Core.List.{List, [], ◌∷◌}
-use Prim.Native.Nat.{ℕ, ◌+◌, ◌<◌, ◌≤◌}
+use Prim.Native.Nat.{ℕ, zero, suc, ◌+◌, ◌<◌, ◌≤◌}
+use native.Mathlib.Nat.{add-zero}
 use native.Mathlib.Omega.{arith}
 use lib.Dec.{eqb, ltb}
 use lib.ListN.{length, get_or, set, length-set, replicate, length-replicate}
 use lib.Seq.{get_or-set_same, get_or-set_other}
-use borrow.Author.Tests.{ltb-true, eqb-true, eqb-false}
+use borrow.Author.Tests.{ltb-true, lt-ltb, eqb-true, eqb-false}
+use Rattle.std.specs.Prelude.{Option, Some, None}
 use Rattle.inference.specs.declared.Constraint.{Constraint}
 use Rattle.inference.specs.declared.Constraint.TheVariants.{Sub, Lit, Disjunction, Comprehension, Join}
+use Rattle.inference.specs.declared.ExprId.{ExprId}
 use Rattle.inference.specs.Constraints.{max_exprs, rows_from}
 use Rattle.inference.specs.SolveChecks.{disjunction_for, disjunctions, among, no_two}
-use Rattle.solve_checks.specs.Inner.Marks.{Marked, marked, mark_of, mark_by, all_under}
+use Rattle.solve_checks.specs.Inner.Marks.{Marked, marked, mark_of, disjunction_expr, expr_before, exprs_in, IsExpr, EachIsExpr}
 use Rattle.solve_checks.proofs.RowsLeft.{left, all_left, one_left, none_left}
 use Rattle.unification.proofs.Settles.{none_at_first}
 
 unfoldable pub fresh_from : List Bool → List ℕ → Bool
 fresh_from seen [] = true
 fresh_from seen (x ∷ xs) = not (get_or seen x false) && fresh_from (set seen x true) xs
+
+unfoldable all_under : ℕ → List ℕ → Bool
+all_under n [] = true
+all_under n (x ∷ xs) = ltb x n && all_under n xs
 
 unfoldable none_seen : List Bool → List ℕ → Bool
 none_seen seen [] = true
@@ -88,78 +95,89 @@ module _ (whole : List ℕ) where
       once : b ≡ true → length seen₁ ≡ length seen → Marking seen₁ rest₁
       once x s = record { size = s ∙ p.size; left_over = p.left_over ∙ (step ∙ ap (λ z. z && fresh_from seen₁ rest₁) x) }
 
--- numbers that are rows
-module _ (row : ℕ → ℕ) (n : ℕ) where
-  abbrev numbers : List ℕ
-  numbers = rows_from row 0 n
+-- rows that are for expressions within the ceiling
+rows_under : (row : ℕ → Option ExprId) (i n : ℕ) → ((j : ℕ) → j < n → IsExpr (row (i + j))) → all_under max_exprs (exprs_in (rows_from row i n)) ≡ true
+unfolding all_under rows_from exprs_in
+rows_under row i zero h = refl
+rows_under row i (suc n) h =
+    one (row i) (subst (λ (k : ℕ). IsExpr (row k)) (add-zero i) (h 0 (omega arith))) (exprs_in (rows_from row (i + 1) n))
+    (rows_under row (i + 1) n (λ j l. subst (λ (k : ℕ). IsExpr (row k)) (omega arith) (h (suc j) (omega (arith, l)))))
+  where
+    one : (x : Option ExprId) → IsExpr x → (xs : List ℕ) → all_under max_exprs xs ≡ true → all_under max_exprs (expr_before x xs) ≡ true
+    one None y xs u = u
+    one (Some x) y xs u = (and-eq-true_iff (ltb x.0 max_exprs) (all_under max_exprs xs)).1 (lt-ltb x.0 max_exprs y, u)
 
-  abbrev pub NumbersMarked : List Bool → ℕ → Type 0
-  NumbersMarked seen i = (i ≤ n) × Marking numbers seen (left row n i)
+all_exprs : (row : ℕ → Option ExprId) (n : ℕ) → EachIsExpr n row → all_under max_exprs (exprs_in (rows_from row 0 n)) ≡ true
+all_exprs row n u = rows_under row 0 n (λ j l. subst (λ (k : ℕ). IsExpr (row k)) (omega arith) (u j l))
 
-  pub no_number_marked : NumbersMarked (replicate max_exprs false) 0
-  no_number_marked = (omega arith, begin numbers (left row n 0) (all_left row n))
-
-  module _ (u : all_under max_exprs numbers ≡ true) (seen : List Bool) (i : ℕ) (p : NumbersMarked seen i) where
-    module _ (l : i < n) (x : ℕ) (e : x ≡ row i) (seen₁ : List Bool) (b : Bool) (m : marked seen₁ b ≡ mark_of seen x) where
-      number_step : fresh_from seen (left row n i) ≡ (b && fresh_from seen₁ (left row n (i + 1)))
-      unfolding fresh_from
-      number_step =
-          ap (fresh_from seen) (one_left row n i l ∙ ap (λ (y : ℕ). y ∷ left row n (i + 1)) (sym e))
-          ∙ sym (ap₂ (λ (y : Bool) (ys : List Bool). y && fresh_from ys (left row n (i + 1))) (ap (λ (k : Marked). k.fresh) m) (ap (λ (k : Marked). k.seen) m))
-
-      pub number_twice : b ≡ false → false ≡ no_two numbers
-      number_twice = twice numbers seen (left row n i) p.1 seen₁ b (left row n (i + 1)) number_step u
-
-      pub number_once : b ≡ true → length seen₁ ≡ length seen → NumbersMarked seen₁ (i + 1)
-      number_once x s = (omega (arith, l), once numbers seen (left row n i) p.1 seen₁ b (left row n (i + 1)) number_step x s)
-
-    pub numbers_differ : n ≤ i → true ≡ no_two numbers
-    numbers_differ l = end numbers seen (left row n i) p.1 u (none_left row n i l)
-
--- the expressions that constraints are disjunctions for
-mark_steps : (seen : List Bool) (c : Constraint) (xs : List ℕ) → fresh_from seen (disjunction_for c xs) ≡
-    ((mark_by seen c).fresh && fresh_from (mark_by seen c).seen xs)
+-- the expressions that rows are for
+mark_steps : (seen : List Bool) (x : ExprId) (xs : List ℕ) → fresh_from seen (expr_before (Some x) xs)
+    ≡ ((mark_of seen x.0).fresh && fresh_from (mark_of seen x.0).seen xs)
 unfolding fresh_from
-mark_steps seen (Sub l r) xs = refl
-mark_steps seen (Lit p kind) xs = refl
-mark_steps seen (Disjunction x p run) xs = refl
-mark_steps seen (Comprehension body node element) xs = refl
-mark_steps seen (Join run t) xs = refl
+mark_steps seen x xs = refl
 
-module _ (row : ℕ → Constraint) (n : ℕ) where
+module _ (row : ℕ → Option ExprId) (n : ℕ) where
   abbrev exprs : List ℕ
-  exprs = disjunctions (rows_from row 0 n)
+  exprs = exprs_in (rows_from row 0 n)
 
   abbrev exprs_left : ℕ → List ℕ
-  exprs_left i = disjunctions (left row n i)
+  exprs_left i = exprs_in (left row n i)
 
-  abbrev pub DisjunctionsMarked : List Bool → ℕ → Type 0
-  DisjunctionsMarked seen i = (i ≤ n) × Marking exprs seen (exprs_left i)
+  abbrev pub ExprsMarked : List Bool → ℕ → Type 0
+  ExprsMarked seen i = (i ≤ n) × Marking exprs seen (exprs_left i)
 
-  pub no_disjunction_marked : DisjunctionsMarked (replicate max_exprs false) 0
-  no_disjunction_marked = (omega arith, begin exprs (exprs_left 0) (ap disjunctions (all_left row n)))
+  pub none_marked_yet : ExprsMarked (replicate max_exprs false) 0
+  none_marked_yet = (omega arith, begin exprs (exprs_left 0) (ap exprs_in (all_left row n)))
 
-  module _ (u : all_under max_exprs exprs ≡ true) (seen : List Bool) (i : ℕ) (p : DisjunctionsMarked seen i) where
-    module _ (l : i < n) (c : Constraint) (e : c ≡ row i) (seen₁ : List Bool) (b : Bool) (m : marked seen₁ b ≡ mark_by seen c) where
-      disjunction_step : fresh_from seen (exprs_left i) ≡ (b && fresh_from seen₁ (exprs_left (i + 1)))
-      unfolding disjunctions
-      disjunction_step =
-          ap (λ cs. fresh_from seen (disjunctions cs)) (one_left row n i l ∙ ap (λ d. d ∷ left row n (i + 1)) (sym e))
-          ∙ (mark_steps seen c (exprs_left (i + 1))
-          ∙ sym (ap₂ (λ (y : Bool) (ys : List Bool). y && fresh_from ys (exprs_left (i + 1)))
-          (ap (λ (k : Marked). k.fresh) m) (ap (λ (k : Marked). k.seen) m)))
+  module _ (seen : List Bool) (i : ℕ) (p : ExprsMarked seen i) where
+    module _ (l : i < n) where
+      expr_left : exprs_left i ≡ expr_before (row i) (exprs_left (i + 1))
+      unfolding exprs_in
+      expr_left = ap exprs_in (one_left row n i l)
 
-      pub disjunction_twice : b ≡ false → false ≡ no_two exprs
-      disjunction_twice = twice exprs seen (exprs_left i) p.1 seen₁ b (exprs_left (i + 1)) disjunction_step u
+      pub none_to_mark : None ≡ row i → ExprsMarked seen (i + 1)
+      none_to_mark e = (
+        omega (arith, l),
+        once exprs seen (exprs_left i) p.1 seen true (exprs_left (i + 1)) (ap (fresh_from seen)
+            (expr_left ∙ ap (λ x. expr_before x (exprs_left (i + 1))) (sym e))) refl refl,
+      )
 
-      pub disjunction_once : b ≡ true → length seen₁ ≡ length seen → DisjunctionsMarked seen₁ (i + 1)
-      disjunction_once x s = (omega (arith, l), once exprs seen (exprs_left i) p.1 seen₁ b (exprs_left (i + 1)) disjunction_step x s)
+      module _ (x : ExprId) (e : Some x ≡ row i) (seen₁ : List Bool) (b : Bool) (m : marked seen₁ b ≡ mark_of seen x.0) where
+        marked_one : fresh_from seen (exprs_left i) ≡ (b && fresh_from seen₁ (exprs_left (i + 1)))
+        marked_one =
+            ap (fresh_from seen) (expr_left ∙ ap (λ y. expr_before y (exprs_left (i + 1))) (sym e))
+            ∙ (mark_steps seen x (exprs_left (i + 1))
+            ∙ sym (ap₂ (λ (y : Bool) (ys : List Bool). y && fresh_from ys (exprs_left (i + 1)))
+            (ap (λ (k : Marked). k.fresh) m) (ap (λ (k : Marked). k.seen) m)))
 
-    pub disjunctions_differ : n ≤ i → true ≡ no_two exprs
-    unfolding disjunctions
-    disjunctions_differ l = end exprs seen (exprs_left i) p.1 u (ap disjunctions (none_left row n i l))
+        pub expr_twice : EachIsExpr n row → b ≡ false → false ≡ no_two exprs
+        expr_twice u = twice exprs seen (exprs_left i) p.1 seen₁ b (exprs_left (i + 1)) marked_one (all_exprs row n u)
 
--- each way through the code
-pub ruleset names_once = (no_number_marked, number_twice, number_once, numbers_differ)
+        pub expr_once : b ≡ true → ExprsMarked seen₁ (i + 1)
+        expr_once y = (
+          omega (arith, l),
+          once exprs seen (exprs_left i) p.1 seen₁ b (exprs_left (i + 1)) marked_one y (ap (λ (k : Marked). length k.seen) m ∙
+              length-set seen x.0 true),
+        )
 
-pub ruleset disjunctions_once = (no_disjunction_marked, disjunction_twice, disjunction_once, disjunctions_differ)
+    pub exprs_differ : EachIsExpr n row → n ≤ i → true ≡ no_two exprs
+    unfolding exprs_in
+    exprs_differ u l = end exprs seen (exprs_left i) p.1 (all_exprs row n u) (ap exprs_in (none_left row n i l))
+
+-- the rows of check 10
+pub each_disjunction : (row : ℕ → Constraint) (i n : ℕ) → exprs_in (rows_from (λ k. disjunction_expr (row k)) i n) ≡ disjunctions (rows_from row i n)
+unfolding exprs_in disjunctions rows_from
+each_disjunction row i zero = refl
+each_disjunction row i (suc n) = one (row i) _ _ (each_disjunction row (i + 1) n)
+  where
+    one : (c : Constraint) (xs ys : List ℕ) → xs ≡ ys → expr_before (disjunction_expr c) xs ≡ disjunction_for c ys
+    one (Sub l r) xs ys e = e
+    one (Lit p kind) xs ys e = e
+    one (Disjunction x p run) xs ys e = ap (λ zs. x.0 ∷ zs) e
+    one (Comprehension body node element) xs ys e = e
+    one (Join run t) xs ys e = e
+
+pub each_key : (key : ℕ → ℕ) (i n : ℕ) → exprs_in (rows_from (λ k. Some (record { 0 = key k })) i n) ≡ rows_from key i n
+unfolding exprs_in rows_from
+each_key key i zero = refl
+each_key key i (suc n) = ap (λ xs. key i ∷ xs) (each_key key (i + 1) n)

@@ -1,68 +1,40 @@
--- Check 1 of the lists beside sorts, nodes and bindings, test by test. Assumes nothing.
-use mathlib.Core.Path.{◌≡◌, sym}
-use mathlib.Core.Bool.{false, and-false}
-use mathlib.Core.List.{List}
-use Prim.Native.Nat.{ℕ, ◌*◌, ◌/◌, ◌<◌, ◌≤◌}
-use native.Mathlib.Omega.{arith}
+-- Check 1 of the lists beside sorts, nodes and bindings, list by list. Assumes nothing.
+use mathlib.Core.Path.{◌≡◌, refl, sym, ap, ◌∙◌}
+use mathlib.Core.Bool.{Bool, true, false, ◌&&◌, and_assoc}
+use Prim.Native.Nat.{◌*◌, ◌/◌}
 use lib.Dec.{leb}
+use native.Mathlib.Omega.{arith}
 use lib.ListN.{length}
-use borrow.Author.Tests.{le-leb, lt-leb}
-use Rattle.inference.specs.SolveChecks.{Call, rows_within_lent}
-use Rattle.solve_checks.specs.declared.Given.{Given}
-use Rattle.solve_checks.specs.Inner.Calls.{problem_call}
+use Rattle.inference.specs.Constraints.{max_exprs, max_constraints, max_overloads, max_sources}
+use Rattle.inference.specs.SolveChecks.{rows_within_lent}
+use Rattle.solve_checks.specs.declared.Problem.{Problem}
+use Rattle.solve_checks.specs.Inner.Calls.{call_for}
+use Rattle.solve_checks.proofs.Quotients.{third}
 
-module _ (g : Given) (xs ks cs os ss : List ℕ) where
-  abbrev I : Call
-  I = problem_call g xs ks cs os ss
+regrouped : (a b c d e f g h i : Bool) → ((((a && b) && c) && (d && e)) && (f && g)) && (h && i) ≡ (a && b && c && d && e && f && g && h && i)
+regrouped false b c d e f g h i = refl
+regrouped true b c d e f g h i =
+    sym (and_assoc ((b && c) && (d && e) && (f && g)) h i)
+    ∙ ap (λ z. z && h && i) (sym (and_assoc ((b && c) && (d && e)) f g) ∙ ap (λ z. z && f && g) (sym (and_assoc (b && c) d e)))
 
-  pub exprs_above : 512 < g.exprs → false ≡ rows_within_lent I
+module _ (p : Problem) where
+  abbrev pub first_two : Bool
+  first_two =
+      leb p.given.exprs max_exprs && leb (1 * p.given.exprs) (length p.exprs.now) && leb p.given.names (length p.names.now / 3)
+
+  abbrev pub first_three : Bool
+  first_three = first_two && (leb p.given.constraints max_constraints && leb (5 * p.given.constraints) (length p.constraints.now))
+
+  abbrev pub first_four : Bool
+  first_four = first_three && (leb p.given.overloads max_overloads && leb (3 * p.given.overloads) (length p.overloads.now))
+
+  pub list_by_list : (first_four && (leb p.given.sources max_sources && leb (1 * p.given.sources) (length p.sources.now))) ≡ rows_within_lent (call_for p)
   unfolding rows_within_lent
-  exprs_above h = simp (lt-leb g.exprs 512 h)
-
-  pub exprs_short : length xs < g.exprs → false ≡ rows_within_lent I
-  unfolding rows_within_lent
-  exprs_short h = simp (lt-leb g.exprs (length xs) h, and-false)
-
-  pub names_short : length ks / 3 < g.names → false ≡ rows_within_lent I
-  unfolding rows_within_lent
-  names_short h = simp (lt-leb (3 * g.names) (length ks) (omega (arith, h)), and-false)
-
-  pub constraints_above : 256 < g.constraints → false ≡ rows_within_lent I
-  unfolding rows_within_lent
-  constraints_above h = simp (lt-leb g.constraints 256 h, and-false)
-
-  pub constraints_short : length cs < 5 * g.constraints → false ≡ rows_within_lent I
-  unfolding rows_within_lent
-  constraints_short h = simp (lt-leb (5 * g.constraints) (length cs) h, and-false)
-
-  pub overloads_above : 1024 < g.overloads → false ≡ rows_within_lent I
-  unfolding rows_within_lent
-  overloads_above h = simp (lt-leb g.overloads 1024 h, and-false)
-
-  pub overloads_short : length os < 3 * g.overloads → false ≡ rows_within_lent I
-  unfolding rows_within_lent
-  overloads_short h = simp (lt-leb (3 * g.overloads) (length os) h, and-false)
-
-  pub sources_above : 256 < g.sources → false ≡ rows_within_lent I
-  unfolding rows_within_lent
-  sources_above h = simp (lt-leb g.sources 256 h, and-false)
-
-  pub by_sources : g.exprs ≤ 512 → g.exprs ≤ length xs → g.names ≤ length ks / 3 → g.constraints ≤ 256
-      → 5 * g.constraints ≤ length cs → g.overloads ≤ 1024
-      → 3 * g.overloads ≤ length os → g.sources ≤ 256 → leb g.sources (length ss) ≡ rows_within_lent I
-  unfolding rows_within_lent
-  by_sources a b c d e f h i =
-      sym
-      (simp (
-        le-leb g.exprs 512 a,
-        le-leb g.exprs (length xs) b,
-        le-leb (3 * g.names) (length ks) (omega (arith, c)),
-        le-leb g.constraints 256 d,
-        le-leb (5 * g.constraints) (length cs) e,
-        le-leb g.overloads 1024 f,
-        le-leb (3 * g.overloads) (length os) h,
-        le-leb g.sources 256 i,
-      ))
-
--- each way through the code
-pub ruleset rows_lent = (exprs_above, exprs_short, names_short, constraints_above, constraints_short, overloads_above, overloads_short, sources_above, by_sources)
+  list_by_list =
+      let e : 1 * p.given.exprs ≡ p.given.exprs = omega arith in
+      let s : 1 * p.given.sources ≡ p.given.sources = omega arith in
+      rw (e, s, third p.given.names (length p.names.now))
+      (regrouped (leb p.given.exprs max_exprs) (leb p.given.exprs (length p.exprs.now)) (leb (3 * p.given.names) (length p.names.now))
+      (leb p.given.constraints max_constraints) (leb (5 * p.given.constraints) (length p.constraints.now))
+      (leb p.given.overloads max_overloads) (leb (3 * p.given.overloads) (length p.overloads.now))
+      (leb p.given.sources max_sources) (leb p.given.sources (length p.sources.now)))

@@ -1,8 +1,8 @@
 -- The checks as the code meets them, test by test.
-pub mod Lent
+pub mod Quotients
 pub mod Fine
+pub mod Lent
 pub mod RowsLeft
 pub mod Fresh
-pub mod Long
 pub mod Testing
 pub mod Ceilings

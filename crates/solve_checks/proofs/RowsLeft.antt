@@ -1,10 +1,13 @@
 -- Rows one after another: what is left from row i on, and what a sum or a test over rows is of those. Assumes nothing.
-use mathlib.Core.Path.{◌≡◌, refl, sym, ap, ◌∙◌}
-use mathlib.Core.Bool.{Bool, true, false, ◌&&◌}
+use mathlib.Core.Path.{◌≡◌, refl, sym, ap, ap₂, ◌∙◌}
+use mathlib.Core.Bool.{Bool, ◌&&◌, and-true, and_assoc}
 use mathlib.Core.List.{List, [], ◌∷◌}
-use Prim.Native.Nat.{ℕ, ◌+◌, ◌-◌, ◌<◌, ◌≤◌}
+use Prim.Native.Nat.{ℕ, zero, suc, ◌+◌, ◌-◌, ◌<◌, ◌≤◌}
 use native.Mathlib.Omega.{arith}
 use lib.ListN.{length}
+use Rattle.std.specs.List.{sum_by}
+use Rattle.std.proofs.lemmas.List.Sums.{sum_by-cons}
+use Rattle.resolved_sort.specs.Checks.{all_below}
 use Rattle.inference.specs.declared.Constraint.{Constraint}
 use Rattle.inference.specs.declared.Constraint.TheVariants.{Sub, Lit, Disjunction, Comprehension, Join}
 use Rattle.inference.specs.Constraints.{rows_from}
@@ -42,57 +45,55 @@ module _ (f : List Constraint → ℕ) (a : Constraint → ℕ) (empty : f [] �
     pub all_summed : n ≤ i → sum ≡ f (rows_from row 0 n)
     all_summed l = omega (arith, p.left_over, ap f (none_left row n i l), empty)
 
--- the two sums there are
-pub no_components : components [] ≡ 0
+-- a sum over rows, and the two there are
+module _ (a : Constraint → ℕ) (row : ℕ → Constraint) (n : ℕ) where
+  pub sum_more : (c : Constraint) (cs : List Constraint) → sum_by a (c ∷ cs) ≡ a c + sum_by a cs
+  sum_more = sum_by-cons a
+
+  abbrev pub SummedBy : ℕ → ℕ → Type 0
+  SummedBy = Summed (sum_by a) a refl sum_more row n
+
+  pub summed_none : SummedBy 0 0
+  summed_none = nothing_summed (sum_by a) a refl sum_more row n
+
+  pub summed_more : (i sum : ℕ) → SummedBy i sum → i < n → (c : Constraint) → c ≡ row i → (x : ℕ) → x ≡ a c → SummedBy (i + 1) (sum + x)
+  summed_more = one_summed (sum_by a) a refl sum_more row n
+
+  pub summed : (i sum : ℕ) → SummedBy i sum → n ≤ i → sum ≡ sum_by a (rows_from row 0 n)
+  summed = all_summed (sum_by a) a refl sum_more row n
+
+pub components_sum : (cs : List Constraint) → sum_by components_of cs ≡ components cs
 unfolding components
-no_components = refl
+components_sum [] = refl
+components_sum (c ∷ cs) = sum_by-cons components_of c cs ∙ ap (λ (n : ℕ). components_of c + n) (components_sum cs)
 
-pub components_more : (c : Constraint) (cs : List Constraint) → components (c ∷ cs) ≡ components_of c + components cs
-unfolding components
-components_more c cs = refl
+abbrev pub choices_of : Constraint → ℕ
+choices_of c = length (disjunction_for c [])
 
-abbrev pub choice_count : List Constraint → ℕ
-choice_count cs = length (disjunctions cs)
+choices_more : (c : Constraint) (xs : List ℕ) → length (disjunction_for c xs) ≡ choices_of c + length xs
+choices_more (Sub l r) xs = omega arith
+choices_more (Lit p kind) xs = omega arith
+choices_more (Disjunction x p run) xs = omega arith
+choices_more (Comprehension body node element) xs = omega arith
+choices_more (Join run t) xs = omega arith
 
-abbrev pub choice_count_of : Constraint → ℕ
-choice_count_of c = length (disjunction_for c [])
-
-pub no_choices : choice_count [] ≡ 0
+pub choices_sum : (cs : List Constraint) → sum_by choices_of cs ≡ length (disjunctions cs)
 unfolding disjunctions
-no_choices = refl
+choices_sum [] = refl
+choices_sum (c ∷ cs) = omega (arith, sum_by-cons choices_of c cs, choices_sum cs, choices_more c (disjunctions cs))
 
-pub choices_more : (c : Constraint) (cs : List Constraint) → choice_count (c ∷ cs) ≡ choice_count_of c + choice_count cs
-unfolding disjunctions
-choices_more (Sub l r) cs = omega arith
-choices_more (Lit p kind) cs = omega arith
-choices_more (Disjunction x p run) cs = omega arith
-choices_more (Comprehension body node element) cs = omega arith
-choices_more (Join run t) cs = omega arith
+-- no Join without sources: a test of every row from the first on
+below_first : (n : ℕ) (p : ℕ → Bool) → all_below (suc n) p ≡ (p 0 && all_below n (λ k. p (suc k)))
+unfolding all_below
+below_first zero p = sym (and-true (p 0))
+below_first (suc n) p = ap (λ z. z && p (suc n)) (below_first n p) ∙ and_assoc (p 0) (all_below n (λ k. p (suc k))) (p (suc n))
 
--- no Join without sources
-module _ (row : ℕ → Constraint) (n : ℕ) where
-  pub record Joined (i : ℕ) : Type 0 where
-    pub within : i ≤ n
-    pub left_over : joins_fine (rows_from row 0 n) ≡ joins_fine (left row n i)
-
-  pub none_joined : Joined 0
-  none_joined = record { within = omega arith; left_over = ap joins_fine (sym (all_left row n)) }
-
-  module _ (i : ℕ) (p : Joined i) where
-    module _ (l : i < n) (c : Constraint) (e : c ≡ row i) (b : Bool) (y : b ≡ has_sources c) where
-      one_and_rest : joins_fine (rows_from row 0 n) ≡ (b && joins_fine (left row n (i + 1)))
-      unfolding joins_fine
-      one_and_rest = p.left_over ∙ (ap joins_fine (one_left row n i l) ∙ ap (λ (z : Bool). z && joins_fine (left row n (i + 1))) (sym (y ∙ ap has_sources e)))
-
-      pub without_sources : b ≡ false → false ≡ joins_fine (rows_from row 0 n)
-      without_sources x = sym (one_and_rest ∙ ap (λ z. z && joins_fine (left row n (i + 1))) x)
-
-      pub one_joined : b ≡ true → Joined (i + 1)
-      one_joined x = record { within = omega (arith, l); left_over = one_and_rest ∙ ap (λ z. z && joins_fine (left row n (i + 1))) x }
-
-    pub all_joined : n ≤ i → true ≡ joins_fine (rows_from row 0 n)
-    unfolding joins_fine
-    all_joined l = sym (p.left_over ∙ ap joins_fine (none_left row n i l))
-
--- each way through the code
-pub ruleset joins = (none_joined, without_sources, one_joined, all_joined)
+pub each_joins : (row : ℕ → Constraint) (n : ℕ) (i : ℕ) → all_below n (λ k. has_sources (row (i + k))) ≡ joins_fine (rows_from row i n)
+unfolding all_below joins_fine rows_from
+each_joins row zero i = refl
+each_joins row (suc n) i =
+    let here : i + 0 ≡ i = omega arith in
+    let next : (k : ℕ) → i + suc k ≡ i + 1 + k = λ k. omega arith in
+    below_first n (λ k. has_sources (row (i + k)))
+    ∙ ap₂ (λ (a b : Bool). a && b) (ap (λ k. has_sources (row k)) here)
+    (ap (all_below n) (λ j k. has_sources (row (next k j))) ∙ each_joins row n (i + 1))

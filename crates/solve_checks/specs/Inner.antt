@@ -1,5 +1,4 @@
 -- What only contracts of inner functions cite.
 pub mod Calls
 pub mod Marks
-pub mod Parts
 pub mod Tests

@@ -1,11 +1,13 @@
--- The call that a function's parameters make: how many rows of each list are given, with the lists themselves. A check
--- that looks at some of the lists only is that check of a call whose other lists are empty.
+-- The call that a problem makes as it is lent: how many rows of each list are given, with the lists themselves, and what
+-- is lent beside. A check that looks at the lists of a problem only is that check of a call with nothing beside.
 use Rattle.std.specs.Prelude.{List, [], ℕ, length, ◌≡◌, refl}
 use Rattle.inference.specs.declared.Constraint.{Constraint}
 use Rattle.inference.specs.Constraints.{constraint_at, rows_from}
 use Rattle.inference.specs.SolveChecks.{Call}
 use Rattle.solve_checks.specs.declared.Given.{Given}
+use Rattle.solve_checks.specs.declared.Problem.{Problem}
 use Rattle.solve_checks.specs.declared.Room.{Room}
+use Rattle.solve_checks.specs.declared.Storage.{Storage}
 use Rattle.solve_checks.specs.Call.{call_of}
 
 -- Scratch and outputs of the lengths that a call says. What stands in them no check looks at.
@@ -47,8 +49,14 @@ lists_call g ws ns bs xs ks cs os ss = room_call g ws ns bs xs ks cs os ss no_ro
 abbrev pub problem_call : Given → (exprs names constraints overloads sources : List ℕ) → Call
 problem_call g xs ks cs os ss = lists_call g [] [] [] xs ks cs os ss
 
-abbrev pub outputs_call : Given → List ℕ → (room : Room) → Outs room → Call
-outputs_call g cs room o = room_call g [] [] [] [] [] cs [] [] room o
+-- a problem as it is lent, with what is lent beside it, and with nothing beside
+abbrev pub solve_call : Storage → Problem → (room : Room) → Outs room → Call
+solve_call s p room o =
+    room_call p.given s.sorts.now s.nodes.now s.binds.now p.exprs.now p.names.now p.constraints.now p.overloads.now
+    p.sources.now room o
+
+abbrev pub call_for : Problem → Call
+call_for p = problem_call p.given p.exprs.now p.names.now p.constraints.now p.overloads.now p.sources.now
 
 -- the n constraints of words
 abbrev pub constraint_rows : List ℕ → ℕ → List Constraint

@@ -1,7 +1,9 @@
--- Numbers marked one after another: each is marked once, and each is below a bound.
-use Rattle.std.specs.Prelude.{Bool, true, false, not, ◌&&◌, List, [], ◌∷◌, ℕ, ltb, get_or, set}
+-- Expressions marked one after another: each is marked once. A row may be for one expression or for none.
+use Rattle.std.specs.Prelude.{⊤, Bool, true, false, not, List, [], ◌∷◌, ℕ, ◌<◌, Option, Some, None, get_or, set}
 use Rattle.inference.specs.declared.Constraint.{Constraint}
 use Rattle.inference.specs.declared.Constraint.TheVariants.{Sub, Lit, Disjunction, Comprehension, Join}
+use Rattle.inference.specs.declared.ExprId.{ExprId}
+use Rattle.inference.specs.Constraints.{max_exprs}
 
 -- what marking leaves: the marks, and whether the number was not marked yet
 pub record Marked : Type 0 where
@@ -14,14 +16,27 @@ marked seen fresh = record { seen = seen; fresh = fresh }
 abbrev pub mark_of : List Bool → ℕ → Marked
 mark_of seen x = record { seen = set seen x true; fresh = not (get_or seen x false) }
 
--- a constraint marks the expression that it is a disjunction for
-abbrev pub mark_by : List Bool → Constraint → Marked
-mark_by seen (Sub l r) = record { seen = seen; fresh = true }
-mark_by seen (Lit p kind) = record { seen = seen; fresh = true }
-mark_by seen (Disjunction x p run) = mark_of seen x.0
-mark_by seen (Comprehension body node element) = record { seen = seen; fresh = true }
-mark_by seen (Join run t) = record { seen = seen; fresh = true }
+-- the expression that a constraint is a disjunction for
+abbrev pub disjunction_expr : Constraint → Option ExprId
+disjunction_expr (Sub l r) = None
+disjunction_expr (Lit p kind) = None
+disjunction_expr (Disjunction x p run) = Some x
+disjunction_expr (Comprehension body node element) = None
+disjunction_expr (Join run t) = None
 
-unfoldable pub all_under : ℕ → List ℕ → Bool
-all_under n [] = true
-all_under n (x ∷ xs) = ltb x n && all_under n xs
+-- the numbers of the expressions that rows are for
+abbrev pub expr_before : Option ExprId → List ℕ → List ℕ
+expr_before None xs = xs
+expr_before (Some x) xs = x.0 ∷ xs
+
+unfoldable pub exprs_in : List (Option ExprId) → List ℕ
+exprs_in [] = []
+exprs_in (x ∷ xs) = expr_before x (exprs_in xs)
+
+-- within the ceiling, each of n rows
+abbrev pub IsExpr : Option ExprId → Type 0
+IsExpr None = ⊤
+IsExpr (Some x) = x.0 < max_exprs
+
+abbrev pub EachIsExpr : ℕ → (ℕ → Option ExprId) → Type 0
+EachIsExpr n f = (i : ℕ) → i < n → IsExpr (f i)

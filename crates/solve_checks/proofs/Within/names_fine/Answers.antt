@@ -1,0 +1,9 @@
+-- What `all` ran is what the definition tests. Assumes nothing.
+use Rattle.std.proofs.Common.{of_calls, refl}
+use Rattle.inference.specs.SolveChecks.{names_fine}
+use Rattle.resolved_sort.proofs.ByAll.{all_below_by_all}
+use Rattle.solve_checks.proofs.Within.names_fine.Goals as goal
+
+pub returns : goal.returns
+unfolding names_fine
+returns c = all_below_by_all _ _ _ _ _ refl c.all.ensures.ran (λ x b q k. search of_calls)

@@ -1,9 +1,0 @@
--- What `all` ran is what the definition tests. Assumes nothing.
-use Rattle.std.proofs.Common.{of_calls, refl}
-use Rattle.inference.specs.SolveChecks.{exprs_fine}
-use Rattle.resolved_sort.proofs.ByAll.{all_below_by_all}
-use Rattle.solve_checks.proofs.exprs_fine.Goals as goal
-
-pub returns : goal.returns
-unfolding exprs_fine
-returns c = all_below_by_all _ _ _ _ _ refl c.all.ensures.ran (λ x b q k. search of_calls)
