@@ -211,10 +211,10 @@ def point_2(rows, functions, enums, structs):
             rows["2 pairs of functions of one shape (0.85 of their words)"].append(f"{one} = {other}")
         elif len(near_a & near_b) >= 0.6 * len(near_a | near_b):
             rows["2 pairs of functions of one shape (0.85 of their words)"].append(f"{one} ~ {other}")
-    # types of the same parts: enums with the same variants, structs with the same fields
+    # types of the same parts: enums with the same variants, structs with the same fields, two or more
     for kind in (enums, structs):
         for (one, a), (other, b) in itertools.combinations(kind.items(), 2):
-            if a == b or len(a) > 2 and list(a) == list(b):
+            if a == b and len(a) > 1 or len(a) > 2 and list(a) == list(b):
                 rows["+2 types of the same parts"].append(f"{one} = {other}")
 
 
@@ -237,7 +237,7 @@ def points_3_4(rows, functions, tree):
                 if any(part[1:] in (["+", "1"], ["-", "1"]) for part in split(inside)):
                     rows["+3 functions that call themselves with a counted argument"].append(f.name)
                     break
-        if converts(f):
+        if converts(f) and "From<" not in f.name:
             rows["4 comparing, converting and printing by hand"].append(f"{f.name} is a match from constants to constants")
         kinds = [t for _, t in f.parameters]
         if f.result == "bool" and len(kinds) == 2 and kinds[0] == kinds[1] and "==" in f.tokens:
