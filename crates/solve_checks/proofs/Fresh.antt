@@ -16,7 +16,7 @@ use Rattle.inference.specs.declared.Constraint.TheVariants.{Sub, Lit, Disjunctio
 use Rattle.inference.specs.declared.ExprId.{ExprId}
 use Rattle.inference.specs.Constraints.{max_exprs, rows_from}
 use Rattle.inference.specs.SolveChecks.{disjunction_for, disjunctions, among, no_two}
-use Rattle.solve_checks.specs.Inner.Marks.{Marked, marked, mark_of, disjunction_expr, expr_before, exprs_in, IsExpr, EachIsExpr}
+use Rattle.solve_checks.specs.Inner.Marks.{Marked, marked, mark_of, disjunction_expr, expr_before, exprs_for, IsExpr, EachIsExpr}
 use Rattle.solve_checks.proofs.RowsLeft.{left, all_left, one_left, none_left}
 use Rattle.unification.proofs.Settles.{none_at_first}
 
@@ -96,18 +96,18 @@ module _ (whole : List ℕ) where
       once x s = record { size = s ∙ p.size; left_over = p.left_over ∙ (step ∙ ap (λ z. z && fresh_from seen₁ rest₁) x) }
 
 -- rows that are for expressions within the ceiling
-rows_under : (row : ℕ → Option ExprId) (i n : ℕ) → ((j : ℕ) → j < n → IsExpr (row (i + j))) → all_under max_exprs (exprs_in (rows_from row i n)) ≡ true
-unfolding all_under rows_from exprs_in
+rows_under : (row : ℕ → Option ExprId) (i n : ℕ) → ((j : ℕ) → j < n → IsExpr (row (i + j))) → all_under max_exprs (exprs_for (rows_from row i n)) ≡ true
+unfolding all_under rows_from exprs_for
 rows_under row i zero h = refl
 rows_under row i (suc n) h =
-    one (row i) (subst (λ (k : ℕ). IsExpr (row k)) (add-zero i) (h 0 (omega arith))) (exprs_in (rows_from row (i + 1) n))
+    one (row i) (subst (λ (k : ℕ). IsExpr (row k)) (add-zero i) (h 0 (omega arith))) (exprs_for (rows_from row (i + 1) n))
     (rows_under row (i + 1) n (λ j l. subst (λ (k : ℕ). IsExpr (row k)) (omega arith) (h (suc j) (omega (arith, l)))))
   where
     one : (x : Option ExprId) → IsExpr x → (xs : List ℕ) → all_under max_exprs xs ≡ true → all_under max_exprs (expr_before x xs) ≡ true
     one None y xs u = u
     one (Some x) y xs u = (and-eq-true_iff (ltb x.0 max_exprs) (all_under max_exprs xs)).1 (lt-ltb x.0 max_exprs y, u)
 
-all_exprs : (row : ℕ → Option ExprId) (n : ℕ) → EachIsExpr n row → all_under max_exprs (exprs_in (rows_from row 0 n)) ≡ true
+all_exprs : (row : ℕ → Option ExprId) (n : ℕ) → EachIsExpr n row → all_under max_exprs (exprs_for (rows_from row 0 n)) ≡ true
 all_exprs row n u = rows_under row 0 n (λ j l. subst (λ (k : ℕ). IsExpr (row k)) (omega arith) (u j l))
 
 -- the expressions that rows are for
@@ -118,22 +118,22 @@ mark_steps seen x xs = refl
 
 module _ (row : ℕ → Option ExprId) (n : ℕ) where
   abbrev exprs : List ℕ
-  exprs = exprs_in (rows_from row 0 n)
+  exprs = exprs_for (rows_from row 0 n)
 
   abbrev exprs_left : ℕ → List ℕ
-  exprs_left i = exprs_in (left row n i)
+  exprs_left i = exprs_for (left row n i)
 
   abbrev pub ExprsMarked : List Bool → ℕ → Type 0
   ExprsMarked seen i = (i ≤ n) × Marking exprs seen (exprs_left i)
 
   pub none_marked_yet : ExprsMarked (replicate max_exprs false) 0
-  none_marked_yet = (omega arith, begin exprs (exprs_left 0) (ap exprs_in (all_left row n)))
+  none_marked_yet = (omega arith, begin exprs (exprs_left 0) (ap exprs_for (all_left row n)))
 
   module _ (seen : List Bool) (i : ℕ) (p : ExprsMarked seen i) where
     module _ (l : i < n) where
       expr_left : exprs_left i ≡ expr_before (row i) (exprs_left (i + 1))
-      unfolding exprs_in
-      expr_left = ap exprs_in (one_left row n i l)
+      unfolding exprs_for
+      expr_left = ap exprs_for (one_left row n i l)
 
       pub none_to_mark : None ≡ row i → ExprsMarked seen (i + 1)
       none_to_mark e = (
@@ -161,12 +161,12 @@ module _ (row : ℕ → Option ExprId) (n : ℕ) where
         )
 
     pub exprs_differ : EachIsExpr n row → n ≤ i → true ≡ no_two exprs
-    unfolding exprs_in
-    exprs_differ u l = end exprs seen (exprs_left i) p.1 (all_exprs row n u) (ap exprs_in (none_left row n i l))
+    unfolding exprs_for
+    exprs_differ u l = end exprs seen (exprs_left i) p.1 (all_exprs row n u) (ap exprs_for (none_left row n i l))
 
 -- the rows of check 10
-pub each_disjunction : (row : ℕ → Constraint) (i n : ℕ) → exprs_in (rows_from (λ k. disjunction_expr (row k)) i n) ≡ disjunctions (rows_from row i n)
-unfolding exprs_in disjunctions rows_from
+pub each_disjunction : (row : ℕ → Constraint) (i n : ℕ) → exprs_for (rows_from (λ k. disjunction_expr (row k)) i n) ≡ disjunctions (rows_from row i n)
+unfolding exprs_for disjunctions rows_from
 each_disjunction row i zero = refl
 each_disjunction row i (suc n) = one (row i) _ _ (each_disjunction row (i + 1) n)
   where
@@ -177,7 +177,7 @@ each_disjunction row i (suc n) = one (row i) _ _ (each_disjunction row (i + 1) n
     one (Comprehension body node element) xs ys e = e
     one (Join run t) xs ys e = e
 
-pub each_key : (key : ℕ → ℕ) (i n : ℕ) → exprs_in (rows_from (λ k. Some (record { 0 = key k })) i n) ≡ rows_from key i n
-unfolding exprs_in rows_from
+pub each_key : (key : ℕ → ℕ) (i n : ℕ) → exprs_for (rows_from (λ k. Some (record { 0 = key k })) i n) ≡ rows_from key i n
+unfolding exprs_for rows_from
 each_key key i zero = refl
 each_key key i (suc n) = ap (λ xs. key i ∷ xs) (each_key key (i + 1) n)

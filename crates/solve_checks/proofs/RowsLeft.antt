@@ -67,20 +67,20 @@ unfolding components
 components_sum [] = refl
 components_sum (c ∷ cs) = sum_by-cons components_of c cs ∙ ap (λ (n : ℕ). components_of c + n) (components_sum cs)
 
-abbrev pub choices_of : Constraint → ℕ
-choices_of c = length (disjunction_for c [])
+abbrev pub disjunctions_of : Constraint → ℕ
+disjunctions_of c = length (disjunction_for c [])
 
-choices_more : (c : Constraint) (xs : List ℕ) → length (disjunction_for c xs) ≡ choices_of c + length xs
+choices_more : (c : Constraint) (xs : List ℕ) → length (disjunction_for c xs) ≡ disjunctions_of c + length xs
 choices_more (Sub l r) xs = omega arith
 choices_more (Lit p kind) xs = omega arith
 choices_more (Disjunction x p run) xs = omega arith
 choices_more (Comprehension body node element) xs = omega arith
 choices_more (Join run t) xs = omega arith
 
-pub choices_sum : (cs : List Constraint) → sum_by choices_of cs ≡ length (disjunctions cs)
+pub choices_sum : (cs : List Constraint) → sum_by disjunctions_of cs ≡ length (disjunctions cs)
 unfolding disjunctions
 choices_sum [] = refl
-choices_sum (c ∷ cs) = omega (arith, sum_by-cons choices_of c cs, choices_sum cs, choices_more c (disjunctions cs))
+choices_sum (c ∷ cs) = omega (arith, sum_by-cons disjunctions_of c cs, choices_sum cs, choices_more c (disjunctions cs))
 
 -- no Join without sources: a test of every row from the first on
 below_first : (n : ℕ) (p : ℕ → Bool) → all_below (suc n) p ≡ (p 0 && all_below n (λ k. p (suc k)))

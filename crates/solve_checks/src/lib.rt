@@ -1,5 +1,5 @@
-// The lists that the solver takes beside sorts, nodes and bindings: checks 1 and 8 to 14 of document 01 over them, and
-// the first failing check of its call.
+// The lists that the solver takes beside sorts, nodes and bindings: checks 1 and 8 to 14 of document 01 over them, the
+// first failing check of its call, and the lists packed into one slice.
 #![tactic(auto)]
 
 ghost use Rattle.std.specs.Prelude.{◌≡◌, true, ◌&&◌, [], ◌∷◌, ℕ, ◌^◌, Option, ◌+◌, ◌*◌, ◌<◌, leb, length};
@@ -12,9 +12,11 @@ ghost use Rattle.inference.specs.SolveChecks.{disjunction_for, disjunctions, giv
 ghost use Rattle.inference.specs.SolveChecks.{joins_fine, components_of, components as componentsIn, all_within_lent};
 ghost use Rattle.inference.specs.SolveChecks.{row_checks, last_checks, solve_checks};
 ghost use Rattle.inference.specs.Inner.RowsLent.{RowsLent};
+ghost use Rattle.search_state.specs.Inner.Memory.{problem_in};
+ghost use Rattle.problem_words.specs.Inner.Packed.{problem_from, Packable};
 ghost use Rattle.solve_checks.specs.Inner.Calls.{Outs, call_for, solve_call, constraint_rows, room_call};
-ghost use Rattle.solve_checks.specs.Inner.Marks.{marked, mark_of, disjunction_expr, exprs_in, EachIsExpr};
-ghost use Rattle.solve_checks.specs.Inner.Tests.{name_fine, source_fine, constraint_row_fine, Gives};
+ghost use Rattle.solve_checks.specs.Inner.Marks.{marked, mark_of, disjunction_expr, exprs_for, EachIsExpr};
+ghost use Rattle.solve_checks.specs.Inner.Tests.{name_fine, source_fine, constraint_row_fine, Computes};
 ghost use Rattle.resolved_sort.specs.Checks.{first_failing};
 
 use inference::{
@@ -24,9 +26,10 @@ use inference::{
 use node_checks::{bindings_within_lent, is_place, nodes_within_lent, test_nodes};
 use problem_words::{ConstraintKind, constraint_at};
 use resolved_sort::{Refusal, Run, SORT_WORDS, SortId};
+use search_state::{EXPRS_AT, OVERLOADS_AT, SOURCES_AT, Sizes};
 use sort_checks::{test_sorts, within_lent};
 use unification::{InferSortId, NODE_WORDS};
-use words::word;
+use words::{copy, word};
 
 // How many rows of each list a call gives, as the caller says it, and the default sort.
 #[derive(Clone, Copy, Drop)]
@@ -118,8 +121,8 @@ fn mark(seen: &mut [bool], expr: ExprId) -> bool
 // Whether no two of so many rows are for one expression. A row may be for none.
 fn no_two<F: Fn(usize) -> Option<ExprId>>(count: usize, expr_of: F) -> bool
     requires { (i : ℕ) → i < count → F.pre expr_of i }
-    ensures { (f : ℕ → Option ExprId) → Gives (F.post expr_of) f → EachIsExpr count f
-        → result ≡ no_two (exprs_in (rows_from f 0 count)) }
+    ensures { (f : ℕ → Option ExprId) → Computes (F.post expr_of) f → EachIsExpr count f
+        → result ≡ no_two (exprs_for (rows_from f 0 count)) }
 {
     let mut seen = [false; MAX_EXPRS];
     for i in 0..count {
@@ -135,7 +138,7 @@ fn no_two<F: Fn(usize) -> Option<ExprId>>(count: usize, expr_of: F) -> bool
 // The sum of what the constraints count, each by itself.
 fn total<F: Fn(Constraint) -> u16>(constraints: &[u16], count: u16, counts: F) -> usize
     requires { F.IsAlwaysCallable counts }
-    ensures { (f : Constraint → ℕ) → Gives (F.post counts) f
+    ensures { (f : Constraint → ℕ) → Computes (F.post counts) f
         → result ≡ sum_by f (constraint_rows constraints.now count) }
 {
     let mut sum: usize = 0;
@@ -342,6 +345,33 @@ impl Problem<'_> {
                 word(self.constraints, row + 2),
                 constraint_at(self.constraints, i),
             )
+    }
+
+    // Packs the lists of the problem, as far as they are given: constraints, overloads, sources and places of
+    // expressions, each at its ceiling.
+    pub fn pack(&self, lists: &mut [u16], sizes: Sizes)
+        requires { Packable lists.old self.now.exprs.now self.now.constraints.now
+            self.now.overloads.now self.now.sources.now sizes }
+        ensures { problem_in lists.new sizes
+            ≡ problem_from self.now.exprs.now self.now.constraints.now
+            self.now.overloads.now self.now.sources.now sizes }
+    {
+        copy(
+            lists,
+            0,
+            self.constraints,
+            0,
+            CONSTRAINT_WORDS * (sizes.constraints as usize),
+        );
+        copy(
+            lists,
+            OVERLOADS_AT,
+            self.overloads,
+            0,
+            OVERLOAD_WORDS * (sizes.overloads as usize),
+        );
+        copy(lists, SOURCES_AT, self.sources, 0, sizes.sources as usize);
+        copy(lists, EXPRS_AT, self.exprs, 0, sizes.exprs as usize);
     }
 
     // The checks of the solver: the first that fails, whatever stands in scratch and outputs.

@@ -29,9 +29,9 @@ abbrev pub expr_before : Option ExprId → List ℕ → List ℕ
 expr_before None xs = xs
 expr_before (Some x) xs = x.0 ∷ xs
 
-unfoldable pub exprs_in : List (Option ExprId) → List ℕ
-exprs_in [] = []
-exprs_in (x ∷ xs) = expr_before x (exprs_in xs)
+unfoldable pub exprs_for : List (Option ExprId) → List ℕ
+exprs_for [] = []
+exprs_for (x ∷ xs) = expr_before x (exprs_for xs)
 
 -- within the ceiling, each of n rows
 abbrev pub IsExpr : Option ExprId → Type 0

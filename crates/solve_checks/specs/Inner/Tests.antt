@@ -16,5 +16,5 @@ constraint_row_fine I i =
     leb (get_or I.constraints (constraint_words * i) 0) 4
     && constraint_fine I (get_or I.constraints (constraint_words * i + 2) 0) (constraint_at I.constraints i)
 
-abbrev pub Gives : {A B : Type 0} → (A → B → Type 0) → (A → B) → Type 0
-Gives {A} {B} post f = (x : A) (r : B) → post x r → r ≡ f x
+abbrev pub Computes : {A B : Type 0} → (A → B → Type 0) → (A → B) → Type 0
+Computes {A} {B} post f = (x : A) (r : B) → post x r → r ≡ f x
