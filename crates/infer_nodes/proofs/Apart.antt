@@ -6,7 +6,7 @@ use Rattle.resolved_sort.specs.Storage.{max_sorts}
 use Rattle.unification.specs.declared.NodeId.{NodeId}
 use Rattle.unification.specs.declared.Place.{Place}
 use Rattle.unification.specs.declared.Place.TheVariants.{Sort, Node}
-use Rattle.infer_nodes.specs.Inner.Apart.{TakenApart}
+use Rattle.unification.specs.Inner.Apart.{TakenApart}
 
 module _ (p : ℕ) (x : Place) (t : TakenApart p x) where
   pub is_sort_lem : (s : SortId) → x ≡ Sort s → (p < max_sorts) × (s.0 ≡ p)

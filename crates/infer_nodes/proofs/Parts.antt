@@ -8,7 +8,7 @@ use native.Mathlib.Decide.{ℕ_discrete}
 use lib.ListN.{length, get_or, length-append}
 use lib.Seq.{get_or-append_seam}
 use lib.Dec.{eqb, leb, ltb}
-use borrow.Author.Tests.{ltb-true, ltb-false, leb-true, leb-false, eqb-true, lt-ltb, le-ltb, le-leb, lt-leb, eq-eqb, ne_eqb}
+use borrow.Author.Tests.{ltb-true, ltb-false, leb-true, leb-false, eqb-true, le-leb, lt-leb, eq-eqb, ne_eqb}
 use Rattle.resolved_sort.specs.declared.Run.{Run}
 use Rattle.resolved_sort.specs.declared.ResolvedSort.{ResolvedSort}
 use Rattle.resolved_sort.specs.Storage.{max_sorts, kind_at, part_at, start_at, count_at, entry_at, entries_of, resolved, row_at, kind_flat, part_flat, kind_op}
@@ -30,7 +30,7 @@ use Rattle.unification.proofs.Parts.{Runs, sort_runs, node_runs, run_length}
 use Rattle.unification.proofs.Places.{sort_below, node_below}
 use Rattle.unification.proofs.Rows.{node_function_fine, sort_no_variable, node_fine_parts}
 use Rattle.unification.proofs.Lists.{sort_fine, node_fine_lem}
-use Rattle.infer_nodes.specs.Inner.Parts.{NodesReady, var_at, number_by, count_by, part_by, entry_in, SmallCount, RowAt, Says}
+use Rattle.infer_nodes.specs.Inner.Parts.{NodesReady, var_by, var_at, number_by, count_by, entry_in, SmallCount, RowAt, Says}
 use Rattle.infer_nodes.proofs.Shapes.{at_sort, at_node, shape_of_node, shape_of_variable}
 
 -- a run and the range behind it
@@ -144,6 +144,15 @@ sort_no_var ws r = go (sort_shape ws r) refl
     go (variable v) e = sort_no_variable ws v r e
     go (over h ps) e = refl
 
+node_var_by : (ns : List ℕ) (k part : ℕ) (run : Run) → var_by k part ≡ var_at (node_shape ns (inferred k part run))
+unfolding node_shape inferred
+node_var_by ns k part run = go (ℕ_discrete k 11) (ltb k 11) refl
+  where
+    go : Dec (k ≡ 11) → (b : Bool) → ltb k 11 ≡ b → var_by k part ≡ var_at (node_shape ns (inferred k part run))
+    go (yes i) b x = subst (λ (m : ℕ). var_by m part ≡ var_at (node_shape ns (inferred m part run))) (sym i) refl
+    go (no n) true x = let l = ltb-true k 11 x in rw (ne_eqb k 11 n, x, le-leb k 11 (omega (arith, l)))
+    go (no n) false x = let l = ltb-false k 11 x in rw (ne_eqb k 11 n, x, lt-leb k 11 (omega (arith, l, n)))
+
 function_small : (ns : List ℕ) (d n v j : ℕ) → node_kind_at ns j ≡ 11 → node_parts_fine ns d n v j (node_at ns j) ≡ true → node_count_at ns j ≤ 16
 unfolding inferred
 function_small ns d n v j f x =
@@ -172,6 +181,9 @@ module _ (ws ns : List ℕ) (k : Lengths) (q : NodesReady ws ns k) (p : ℕ) (e 
     pub small_sort : SmallCount ws (4 * p)
     small_sort f = (run_inside ws k.entries p (row_is_fine l) f).short
 
+    pub sort_inside : (x : ℕ) → x ≡ p → 4 * x + 3 < length ws
+    sort_inside x y = omega (arith, q.sorts.long, l, y)
+
     pub row_of_sort : (x : ℕ) → x ≡ p → (a b c d : ℕ) (us : List ℕ) (at : ℕ) → RowAt ws (4 * x) 4096 a b c d us at
         → Says s (entry_in us at) a b c d
     row_of_sort x y a b c d us at r = rw (r.is_kind, r.is_part, r.is_start, r.is_count, r.is_words, r.is_at, y) says_sort
@@ -197,6 +209,15 @@ module _ (ws ns : List ℕ) (k : Lengths) (q : NodesReady ws ns k) (p : ℕ) (e 
         function_small ns k.arguments k.sorts k.variables j f
         (node_fine_parts ns k.arguments k.sorts k.variables j node_is_fine).1
 
+    pub node_inside : (x : ℕ) → x ≡ j → 4 * x + 3 < length ns
+    node_inside x y = omega (arith, q.long, q.nodes, node_below k.sorts k.nodes p l e, y)
+
+    pub node_var : (x : ℕ) → x ≡ j → (a b c d : ℕ) (us : List ℕ) (at : ℕ) → RowAt ns (4 * x) 8192 a b c d us at → var_by a b ≡ var_at s
+    node_var x y a b c d us at r =
+        rw (r.is_kind, r.is_part, y)
+        (node_var_by ns (node_kind_at ns j) (node_part_at ns j) (record { start = node_start_at ns j; count = node_count_at ns j })
+        ∙ sym (ap var_at (at_node ws ns k q p e l)))
+
     pub row_of_node : (x : ℕ) → x ≡ j → (a b c d : ℕ) (us : List ℕ) (at : ℕ) → RowAt ns (4 * x) 8192 a b c d us at
         → Says s (entry_in us at) a b c d
     row_of_node x y a b c d us at r = rw (r.is_kind, r.is_part, r.is_start, r.is_count, r.is_words, r.is_at, y) says_node
@@ -216,14 +237,10 @@ module _ (ws ns : List ℕ) (k : Lengths) (q : NodesReady ws ns k) (p : ℕ) (e 
         go (Var v) h = absurd (h v refl)
 
 -- equal kinds and equal numbers
-module _ (h g : Head) (a b : ℕ) (ea : a ≡ kind_head h) (eb : b ≡ kind_head g) where
-  pub other_kinds : (a ≡ b → ⊥) → eqb a b ≡ same_head h g
-  unfolding same_head
-  other_kinds d = ne_eqb a b d ∙ rw (sym ea, sym eb, ne_eqb a b d)
-
-  pub by_number : (x y : ℕ) → a ≡ b → x ≡ number_head h → y ≡ number_head g → eqb x y ≡ same_head h g
-  unfolding same_head
-  by_number x y e ex ey = rw (sym ea, sym eb, eq-eqb a b e, sym ex, sym ey)
+pub heads_alike : (h g : Head) (a m b n : ℕ) → a ≡ kind_head h → m ≡ number_head h → b ≡ kind_head g → n ≡ number_head g
+    → (eqb a b && eqb m n) ≡ same_head h g
+unfolding same_head
+heads_alike h g a m b n ea em eb en = rw (ea, em, eb, en)
 
 -- Places of the same head have as many parts.
 counts_agree : (k j a b c d : ℕ) → k ≡ j → number_by k a c ≡ number_by j b d → count_by k c ≡ count_by j d

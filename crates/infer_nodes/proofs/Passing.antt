@@ -3,7 +3,7 @@ use mathlib.Core.List.{List}
 use Prim.Native.Nat.{ℕ}
 use Rattle.unification.specs.declared.Lengths.{Lengths}
 use Rattle.unification.specs.Nodes.{Binds, binds_of}
-use Rattle.unification.specs.Checked.{fine_of, lists_of, graph_of, Ready}
+use Rattle.unification.specs.Checked.{fine_of, graph_of, Ready}
 use Rattle.unification.specs.Unify.{deep}
 use Rattle.unification.proofs.Lists.{lower, scoped}
 use Rattle.unification.proofs.Passed.{length_binds}

@@ -39,7 +39,7 @@ use Rattle.unification.proofs.Enough.{follow_eq, occurs_eq, end_no_higher}
 use Rattle.unification.proofs.Lists.{sort_parts_fine, scoped}
 use Rattle.infer_nodes.specs.Inner.Bound.{bound_to, RunPlaced}
 use Rattle.infer_nodes.specs.Inner.Parts.{var_at}
-use Rattle.infer_nodes.proofs.Shapes.{at_sort, shape_of_node, parts_fine, shape_of_variable, variable_in_list}
+use Rattle.infer_nodes.proofs.Shapes.{at_sort, shape_of_node, parts_fine, shape_of_variable}
 
 -- bindings as words
 pub binding_word : (bs : List ℕ) (n v : ℕ) → v < n → binding (binds_of bs n) v ≡ binding_of (get_or bs v 0)

@@ -4,15 +4,15 @@
 ghost use Rattle.std.specs.Prelude.{◌≡◌, ◌+◌, ◌*◌, ◌<◌, ◌≤◌, length, get_or};
 ghost use Rattle.std.proofs.Math.Option.{some};
 ghost use Rattle.resolved_sort.specs.Storage.{function_kind, max_arguments, row_words};
+ghost use Rattle.unification.specs.Inner.Apart.{TakenApart};
 ghost use Rattle.unification.specs.Inner.Term.{head_of, parts_of};
-ghost use Rattle.unification.specs.Term.{kind_head, same_head};
+ghost use Rattle.unification.specs.Term.{Shape, kind_head, same_head};
 ghost use Rattle.unification.specs.Nodes.{node_entries_at, op_of_kind, node_at, node_entry_at, binding_of, binds_of};
 ghost use Rattle.unification.specs.Unify.{of_test, follow, occurs as occursIn, deep};
 ghost use Rattle.unification.specs.Checked.{graph_of, Ready, Placed};
 ghost use Rattle.unification.specs.Resolve.{with_counts};
-ghost use Rattle.infer_nodes.specs.Inner.Apart.{TakenApart};
 ghost use Rattle.infer_nodes.specs.Inner.Bound.{bound_of, bound_to, BindsPass};
-ghost use Rattle.infer_nodes.specs.Inner.Parts.{NodesReady, var_at, number_by, count_by, part_by, entry_in, SmallCount, RowAt, Says};
+ghost use Rattle.infer_nodes.specs.Inner.Parts.{NodesReady, var_at, var_by, number_by, SmallCount, RowAt};
 
 use resolved_sort::{
     ComplexSort, Counts, DEF_KIND, ENTRIES_AT, FIRST_CONTAINER, FUNCTION_KIND, ROW_WORDS, Run,
@@ -56,15 +56,11 @@ fn op_of_kind(kind: u16) -> ComplexSort
     }
 }
 
-// Takes a place apart: a sort below FIRST_NODE, else a node, counted from there. No other function does so.
-#[tactic(auto, unfolding(crate::specs::Inner::Apart::TakenApart))]
+// A place taken apart, for callers that do not say `Place::from`.
 pub fn taken_apart(id: InferSortId) -> Place
     ensures { TakenApart id.0 result }
 {
-    if id.0 < FIRST_NODE {
-        return Place::Sort(SortId(id.0));
-    }
-    Place::Node(NodeId(id.0 - FIRST_NODE))
+    Place::from(id)
 }
 
 // What a node says.
@@ -98,9 +94,17 @@ pub fn argument(nodes: &[u16], i: u16) -> InferSortId
     InferSortId(word(nodes, NODE_ENTRIES_AT + i as usize))
 }
 
-// A row of words, of a sort or of a node, and the words in which its arguments stand, from `entries` on.
+// The head of a sort: its kind, and the number of arguments of a function, or that of Def and TypeVar.
+#[derive(Clone, Copy, PartialEq, Eq)]
+struct Head {
+    kind: u16,
+    number: u16,
+}
+
+// What stands at a place: the row of a sort or of a node, and the words in which its arguments stand, from `entries`
+// on.
 #[derive(Clone, Copy)]
-struct Row<'a> {
+pub struct Row<'a> {
     kind: u16,
     part: u16,
     start: u16,
@@ -112,36 +116,76 @@ struct Row<'a> {
 }
 
 impl<'a> Row<'a> {
+    ghost use Rattle.infer_nodes.specs.Places.{IsRow};
+
     // The i-th row of these words.
     fn at(words: &'a [u16], entries: usize, i: u16) -> Row<'a>
-        requires { (entries ≤ node_entries_at) × SmallCount words.now (row_words * i) }
+        requires { (entries ≤ node_entries_at)
+            × SmallCount words.now (row_words * i)
+            × (row_words * i + 3 < length words.now) }
         ensures { RowAt words.now (row_words * i) entries
             result.kind result.part result.start result.count
             result.words.now result.entries }
     {
         let row = ROW_WORDS * (i as usize);
         Row {
-            kind: word(words, row),
-            part: word(words, row + 1),
-            start: word(words, row + 2),
-            count: word(words, row + 3),
+            kind: words[row],
+            part: words[row + 1],
+            start: words[row + 2],
+            count: words[row + 3],
             words,
             entries,
         }
     }
 
-    // The number of the head: how many arguments a function has, and the number of Def and TypeVar.
-    fn number(&self) -> u16
-        ensures { result ≡ number_by self.now.kind self.now.part self.now.count }
+    // The variable of a node's row, if it is one.
+    fn variable(&self) -> Option<SortVar>
+        ensures { result ≡ var_by self.now.kind self.now.part }
     {
-        if self.kind == FUNCTION_KIND {
-            return self.count;
+        if self.kind <= FUNCTION_KIND {
+            return None;
         }
-        if DEF_KIND <= self.kind { self.part } else { 0 }
+        Some(SortVar(self.part))
     }
 
-    fn part_count(&self) -> u16
-        ensures { result ≡ count_by self.now.kind self.now.count }
+    fn head(&self) -> Head
+        ensures { result
+            ≡ record {
+              kind = self.now.kind;
+              number = number_by self.now.kind self.now.part self.now.count;
+            } }
+    {
+        let number = if self.kind == FUNCTION_KIND {
+            self.count
+        } else if DEF_KIND <= self.kind {
+            self.part
+        } else {
+            0
+        };
+        Head {
+            kind: self.kind,
+            number,
+        }
+    }
+
+    // The kind of the head.
+    pub fn kind(&self) -> u16
+        ensures { (s : Shape) → IsRow self.now s → result ≡ kind_head (head_of s) }
+    {
+        self.kind
+    }
+
+    // Whether two rows have the same head: constructor, and number of arguments.
+    pub fn same_head(&self, other: &Row<'_>) -> bool
+        ensures { (s t : Shape) → IsRow self.now s → IsRow other.now t
+            → result ≡ same_head (head_of s) (head_of t) }
+    {
+        self.head() == other.head()
+    }
+
+    // How many parts there are: the element of a container, the arguments of a function and then its range.
+    pub fn part_count(&self) -> u16
+        ensures { (s : Shape) → IsRow self.now s → result ≡ length (parts_of s) }
     {
         if self.kind == FUNCTION_KIND {
             return self.count + 1;
@@ -153,10 +197,9 @@ impl<'a> Row<'a> {
     }
 
     // The i-th part: of a function an argument, and after these the range.
-    fn part(&self, i: u16) -> InferSortId
-        ensures { result.0
-            ≡ part_by (entry_in self.now.words.now self.now.entries)
-            self.now.kind self.now.part self.now.start self.now.count i }
+    pub fn part(&self, i: u16) -> InferSortId
+        ensures { (s : Shape) → IsRow self.now s → i < length (parts_of s)
+            → result.0 ≡ get_or (parts_of s) i 0 }
     {
         if self.kind == FUNCTION_KIND && i < self.count {
             let argument = self.start as usize + i as usize;
@@ -176,7 +219,7 @@ pub struct Places<'a> {
 }
 
 impl<'a> Places<'a> {
-    ghost use Rattle.infer_nodes.specs.Places.{graph};
+    ghost use Rattle.infer_nodes.specs.Places.{graph, IsRow};
 
     // What a node says.
     pub fn node(&self, id: NodeId) -> InferSort
@@ -197,62 +240,21 @@ impl<'a> Places<'a> {
         requires { Placed self.now.lengths id.0 }
         ensures { result ≡ var_at (graph self.now id.0) }
     {
-        match taken_apart(id) {
+        match Place::from(id) {
             Place::Sort(_) => None,
-            Place::Node(at) => match self.node(at) {
-                InferSort::Var(var) => Some(var),
-                _ => None,
-            },
+            Place::Node(at) => Row::at(self.nodes, NODE_ENTRIES_AT, at.0).variable(),
         }
     }
 
-    // The row of a place.
-    fn row(&self, id: InferSortId) -> Row<'a>
+    // What stands at a place.
+    pub fn row(&self, id: InferSortId) -> Row<'a>
         requires { Placed self.now.lengths id.0 }
-        ensures { Says (graph self.now id.0)
-            (entry_in result.words.now result.entries)
-            result.kind result.part result.start result.count }
+        ensures { IsRow result (graph self.now id.0) }
     {
-        match taken_apart(id) {
+        match Place::from(id) {
             Place::Sort(sort) => Row::at(self.sorts, ENTRIES_AT, sort.0),
             Place::Node(at) => Row::at(self.nodes, NODE_ENTRIES_AT, at.0),
         }
-    }
-
-    // The kind of the head at a place.
-    pub fn kind_at(&self, id: InferSortId) -> u16
-        requires { Placed self.now.lengths id.0 }
-        ensures { result ≡ kind_head (head_of (graph self.now id.0)) }
-    {
-        self.row(id).kind
-    }
-
-    // Whether two places have the same head: constructor, and number of arguments.
-    pub fn same_head(&self, lhs: InferSortId, rhs: InferSortId) -> bool
-        requires { Placed self.now.lengths lhs.0 × Placed self.now.lengths rhs.0 }
-        ensures { result
-            ≡ same_head (head_of (graph self.now lhs.0)) (head_of (graph self.now rhs.0)) }
-    {
-        let lhs = self.row(lhs);
-        let rhs = self.row(rhs);
-        lhs.kind == rhs.kind && lhs.number() == rhs.number()
-    }
-
-    // How many parts the sort at a place has: the element of a container, the arguments of a function and then its
-    // range.
-    pub fn part_count(&self, id: InferSortId) -> u16
-        requires { Placed self.now.lengths id.0 }
-        ensures { result ≡ length (parts_of (graph self.now id.0)) }
-    {
-        self.row(id).part_count()
-    }
-
-    // The i-th part of the sort at a place.
-    pub fn part(&self, id: InferSortId, i: u16) -> InferSortId
-        requires { Placed self.now.lengths id.0 × (i < length (parts_of (graph self.now id.0))) }
-        ensures { result.0 ≡ get_or (parts_of (graph self.now id.0)) i 0 }
-    {
-        self.row(id).part(i)
     }
 }
 
@@ -306,7 +308,7 @@ impl Bindings<'_, '_> {
         ensures { occursIn (graph self.now.places) deep (bindings self.now) var.0 id.0
             ≡ of_test result }
     {
-        match taken_apart(self.shallow_normalize(id)) {
+        match Place::from(self.shallow_normalize(id)) {
             Place::Sort(_) => false,
             Place::Node(at) => match self.places.node(at) {
                 InferSort::Generic { op: _, subsort } => self.occurs(var, subsort),

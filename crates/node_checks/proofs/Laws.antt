@@ -2,26 +2,18 @@
 use mathlib.Core.Path.{◌≡◌, refl, ap, ap₂, sym, ◌∙◌}
 use mathlib.Core.List.{List}
 use mathlib.Core.Option.{none, some}
-use mathlib.Core.Bool.{Bool, true, false, cond, ◌&&◌, and-false}
-use Prim.Native.Nat.{ℕ, ◌+◌, ◌-◌, ◌*◌, ◌<◌, ◌≤◌}
+use mathlib.Core.Bool.{Bool, true, false, cond, ◌&&◌}
+use Prim.Native.Nat.{ℕ, ◌+◌, ◌-◌, ◌<◌, ◌≤◌}
 use native.Mathlib.Omega.{arith}
 use native.Mathlib.Numerals.{add-one}
-use lib.ListN.{length, get_or, drop, drop_of_length-le}
+use lib.ListN.{get_or, drop, drop_of_length-le}
 use lib.Seq.{drop-cons}
-use lib.Dec.{leb, ltb}
-use borrow.Author.Tests.{leb-true, leb-false, lt-leb, le-leb, lt-ltb, le-ltb, eq-eqb, ne_eqb}
-use Rattle.resolved_sort.specs.declared.Run.{Run}
-use Rattle.resolved_sort.specs.declared.ComplexSort.{ComplexSort}
-use Rattle.resolved_sort.specs.Checks.{all_below}
-use Rattle.unification.specs.declared.InferSortId.{InferSortId}
-use Rattle.unification.specs.declared.SortVar.{SortVar}
-use Rattle.unification.specs.declared.InferSort.{InferSort}
-use Rattle.unification.specs.declared.InferSort.TheVariants.{Generic, Function, Var}
-use Rattle.unification.specs.Nodes.{node_kind_at, node_at, is_place, free_word, Binds, binding_of, binds_of}
-use Rattle.unification.specs.NodeChecks.{nodes_within_lent, bindings_within_lent, node_parts_fine, node_kind_fine, node_fine, binding_fine, bindings_fine}
+use lib.Dec.{ltb}
+use borrow.Author.Tests.{lt-ltb, le-ltb, eq-eqb, ne_eqb}
+use Rattle.unification.specs.Nodes.{is_place, free_word, Binds, binding_of, binds_of}
+use Rattle.unification.specs.NodeChecks.{binding_fine, bindings_fine}
 use Rattle.unification.proofs.Passed.{length_binds}
 use Rattle.infer_nodes.proofs.Ways.{binding_word}
-use Rattle.node_checks.specs.Inner.Tests.{arg_placed}
 
 -- a place
 pub sort_place : (n m p : ℕ) → p < 1024 → ltb p n ≡ is_place n m p

@@ -15,7 +15,7 @@ ghost use Rattle.node_checks.specs.Inner.Tests.{arg_placed};
 ghost use Rattle.unification.specs.Acyclic.{place_settled, all_settled, shape_settled, nodes_settled, binding_settled};
 ghost use Rattle.unification.specs.Acyclic.{vars_settled, all_true, acyclic as acyclicOf};
 
-use infer_nodes::{node, taken_apart};
+use infer_nodes::node;
 use resolved_sort::{FIRST_CONTAINER, FUNCTION_KIND, MAX_ARGUMENTS, ROW_WORDS, Refusal, Run};
 use sort_checks::storage_within;
 use unification::{
@@ -44,7 +44,7 @@ pub fn bindings_within_lent(binds: &[u16], v: usize) -> bool
 pub fn is_place(n: usize, m: usize, p: InferSortId) -> bool
     ensures { result ≡ is_place n m p.0 }
 {
-    match taken_apart(p) {
+    match Place::from(p) {
         Place::Sort(sort) => (sort.0 as usize) < n,
         Place::Node(at) => (at.0 as usize) < m,
     }
@@ -148,7 +148,7 @@ fn flag(flags: &[bool], i: usize) -> bool
 fn place_settled(flags: &[bool], place: InferSortId) -> bool
     ensures { result ≡ place_settled flags.now place.0 }
 {
-    match taken_apart(place) {
+    match Place::from(place) {
         Place::Sort(_) => true,
         Place::Node(at) => flag(flags, at.0 as usize),
     }

@@ -22,7 +22,7 @@ ghost use Rattle.related_sorts.specs.Inner.Outcome.{IsRelated, Relates};
 ghost use Rattle.related_sorts.specs.Inner.Ranges.{related_head, over_function, outwards, Stands, AllStand};
 ghost use Rattle.related_sorts.specs.Inner.Ranges.{FinalRange, SixThere};
 
-use infer_nodes::{Bindings, Places, counts_of, node, taken_apart, with_counts};
+use infer_nodes::{Bindings, Places, counts_of, node, with_counts};
 use resolved_sort::{ARGUMENT_WORDS, ComplexSort, FUNCTION_KIND, ResolvedSort, Sort, SortId};
 use sort_interner::{SortInterner, get, put_row, start_of};
 use unification::{
@@ -84,9 +84,10 @@ fn arguments(places: &Places, id: InferSortId, count: u16) -> [u16; ARGUMENT_WOR
         ≡ take count (parts_of (graph_of places.now.sorts.now places.now.nodes.now
         places.now.lengths id.0)) }
 {
+    let row = places.row(id);
     let mut words = [0u16; ARGUMENT_WORDS];
     for i in 0..count {
-        words[i as usize] = places.part(id, i).0;
+        words[i as usize] = row.part(i).0;
     }
     words
 }
@@ -105,16 +106,17 @@ fn final_range(bindings: &Bindings, id: InferSortId, functions: &mut [u16]) -> L
         bindings.now.binds.now bindings.now.places.lengths id.0
         functions.new result }
 {
-    let places = bindings.places;
     let mut range = id;
+    let mut row = bindings.places.row(range);
     let mut count: u16 = 0;
     // kept: how many functions follow one another is not known before, and what is noted comes with what is reached:
     // successors would answer one of them only.
-    while places.kind_at(range) == FUNCTION_KIND {
+    while row.kind() == FUNCTION_KIND {
         functions[count as usize] = range.0;
         count += 1;
-        let last = places.part_count(range) - 1;
-        range = bindings.shallow_normalize(places.part(range, last));
+        let last = row.part_count() - 1;
+        range = bindings.shallow_normalize(row.part(last));
+        row = bindings.places.row(range);
     }
     Last { count, range }
 }
@@ -283,7 +285,7 @@ impl Arena<'_> {
         ensures keeps { Keeps self.old self.new }
         ensures lists { ListsSome self.new result (related_head up id.0 (world self.old)) }
     {
-        match taken_apart(id) {
+        match Place::from(id) {
             Place::Sort(sort) => self.related_sort(sort, up),
             Place::Node(at) => match self.node(at) {
                 InferSort::Generic { op, subsort } => {
@@ -306,7 +308,7 @@ impl Arena<'_> {
             (over_function id.0 (places ranges) (world self.old)) }
     {
         let places = self.places();
-        let count = places.part_count(id) - 1;
+        let count = places.row(id).part_count() - 1;
         let domain = arguments(&places, id, count);
         self.push_functions(&domain[..count as usize], ranges)
     }
@@ -379,7 +381,7 @@ impl Arena<'_> {
             (strict_related up (binds_of binds.now self.old.lengths.variables) id.0 (world self.old)) }
     {
         let end = self.bindings(binds).shallow_normalize(id);
-        if self.places().kind_at(end) == FUNCTION_KIND {
+        if self.places().row(end).kind() == FUNCTION_KIND {
             return self.related_function(binds, end, up);
         }
         self.related_head(end, up)

@@ -14,7 +14,7 @@ ghost use Rattle.unification.specs.Resolve.{DefaultBelow, term_resolved};
 ghost use Rattle.infer_nodes.specs.Inner.Bound.{RunPlaced};
 ghost use Rattle.std.proofs.Math.Option.{some};
 
-use infer_nodes::{argument, counts_of, node, shallow_normalize, taken_apart, with_counts};
+use infer_nodes::{argument, counts_of, node, shallow_normalize, with_counts};
 use resolved_sort::{ARGUMENT_WORDS, Counts, Joined, NoRoom, Run, SortId};
 use sort_interner::SortInterner;
 use unification::{InferSort, InferSortId, Lengths, Place};
@@ -60,7 +60,7 @@ impl Resolver<'_> {
         ensures resolved { left_at interner.new.words.now interner.new.counts result
             ≡ resolved self.now interner.old (value_at self.now interner.old id.0) }
     {
-        match taken_apart(self.end(interner, id)) {
+        match Place::from(self.end(interner, id)) {
             Place::Sort(sort) => Ok(Some(sort)),
             Place::Node(at) => match node(self.nodes, at) {
                 InferSort::Generic { op, subsort } => {

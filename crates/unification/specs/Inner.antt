@@ -2,3 +2,4 @@
 pub mod Making
 pub mod Resolve
 pub mod Term
+pub mod Apart

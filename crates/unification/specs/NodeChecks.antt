@@ -1,5 +1,5 @@
 -- Checks 1, 5, 6, 7, 12 and 14 over nodes, bindings and places, each true where the check passes.
-use Rattle.std.specs.Prelude.{Bool, true, cond, ◌&&◌, List, [], ◌∷◌, ◌++◌, ℕ, ◌+◌, ◌-◌, ◌*◌, length, eqb, leb, ltb}
+use Rattle.std.specs.Prelude.{Bool, true, cond, ◌&&◌, List, [], ◌∷◌, ◌++◌, ℕ, ◌+◌, length, eqb, leb, ltb}
 use Rattle.std.proofs.Math.Option.{Option, none, some}
 use Rattle.resolved_sort.specs.declared.Refusal.TheVariants.{NotLent, BadNode, BadBinding, Cyclic, NotInList, TooShort}
 use Rattle.resolved_sort.specs.Storage.{max_arguments, first_container, function_kind}

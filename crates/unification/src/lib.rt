@@ -4,6 +4,7 @@
 ghost use Rattle.std.specs.Prelude.{◌≡◌};
 ghost use Rattle.unification.specs.declared.Full.TheVariants.{Sorts, Nodes};
 ghost use Rattle.unification.specs.Full.{refusal_of};
+ghost use Rattle.unification.specs.Inner.Apart.{TakenApart};
 
 use resolved_sort::{ComplexSort, NoRoom, Refusal, Run, SortId};
 
@@ -26,6 +27,19 @@ pub struct SortVar(pub u16);
 pub enum Place {
     Sort(SortId),
     Node(NodeId),
+}
+
+impl From<InferSortId> for Place {
+    ghost from_gives = { λ id place. TakenApart id.0 place };
+
+    // Takes a place apart: a sort below FIRST_NODE, else a node, counted from there. No other function does so.
+    #[tactic(auto, unfolding(crate::specs::Inner::Apart::TakenApart))]
+    fn from(id: InferSortId) -> Self {
+        if id.0 < FIRST_NODE {
+            return Place::Sort(SortId(id.0));
+        }
+        Place::Node(NodeId(id.0 - FIRST_NODE))
+    }
 }
 
 // What a node says. Its parts are places, and the domain of a function is a run of places where the Rust has a Vec.

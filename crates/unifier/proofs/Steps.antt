@@ -34,7 +34,7 @@ use Rattle.unification.specs.Exact.{YesLeaves, BindsKept}
 use Rattle.unification.proofs.Robinson.{unify_kept}
 use Rattle.unification.proofs.Equations.{unify_eq}
 use Rattle.unification.proofs.Theorem.{deep_enough, deeper_enough, ready_ranked}
-use Rattle.infer_nodes.specs.Inner.Parts.{NodesReady, var_at}
+use Rattle.infer_nodes.specs.Inner.Parts.{var_at}
 use Rattle.infer_nodes.proofs.Ways.{is_variable, is_solid, end_is_placed}
 use Rattle.infer_nodes.proofs.Parts.{same_count}
 use Rattle.unifier.specs.Inner.Trying.{Trying, Free, Solid, VariableAt}

@@ -147,12 +147,14 @@ impl Unifier<'_, '_> {
             self.old self.new result }
     {
         let places = self.places;
-        if !places.same_head(l, r) {
+        let left = places.row(l);
+        let right = places.row(r);
+        if !left.same_head(&right) {
             return false;
         }
-        for i in 0..places.part_count(l) {
-            let p = places.part(l, i);
-            let q = places.part(r, i);
+        for i in 0..left.part_count() {
+            let p = left.part(i);
+            let q = right.part(i);
             if !self.unify(p, q) {
                 return false;
             }

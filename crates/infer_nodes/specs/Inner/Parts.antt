@@ -14,6 +14,10 @@ abbrev pub var_at : Shape → Option SortVar
 var_at (variable v) = Some (record { 0 = v })
 var_at (over h ps) = None
 
+-- the variable of a row
+abbrev pub var_by : ℕ → ℕ → Option SortVar
+var_by k part = cond (leb k function_kind) None (Some (record { 0 = part }))
+
 -- the number of a head: the arguments of a function, the number of Def and TypeVar
 abbrev pub number_by : ℕ → ℕ → ℕ → ℕ
 number_by k part count = cond (eqb k function_kind) count (cond (leb def_kind k) part 0)

@@ -1,5 +1,5 @@
 -- The loop's invariant: the flags of the variables after the rounds passed. Assumes nothing.
-use Rattle.std.proofs.Common.{◌-◌, ◌≡◌, ◌≤◌, length, take}
+use Rattle.std.proofs.Common.{◌≡◌, ◌≤◌, length, take}
 use Rattle.unification.specs.Acyclic.{rounds}
 use Rattle.unification.specs.Nodes.{binds_of}
 use Rattle.node_checks.proofs.acyclic.Given as goal

@@ -1,5 +1,5 @@
 -- The loop's invariant: the flags passed are set, and the rest decides. Assumes nothing.
-use Rattle.std.proofs.Common.{◌-◌, ◌≡◌, length, drop}
+use Rattle.std.proofs.Common.{◌≡◌, drop}
 use Rattle.unification.specs.Acyclic.{all_true}
 use Rattle.node_checks.proofs.all_set.Given as goal
 

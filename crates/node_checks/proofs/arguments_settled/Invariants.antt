@@ -1,5 +1,4 @@
 -- The loop's invariant: the arguments passed are settled, and the rest decides. Assumes nothing.
-use Rattle.std.proofs.Common.{◌-◌}
 use Rattle.node_checks.proofs.Settling.{RunLeft}
 use Rattle.node_checks.proofs.arguments_settled.Given as goal
 

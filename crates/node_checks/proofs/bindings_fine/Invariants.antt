@@ -1,5 +1,4 @@
 -- The loop's invariant: the bindings passed are fine, and the rest decides. Assumes nothing.
-use Rattle.std.proofs.Common.{◌-◌}
 use Rattle.node_checks.proofs.Laws.{Passed}
 use Rattle.node_checks.proofs.bindings_fine.Given as goal
 

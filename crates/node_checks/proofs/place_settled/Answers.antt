@@ -6,11 +6,11 @@ use Rattle.node_checks.proofs.place_settled.Goals as goal
 
 pub returns-in-Sort : goal.returns-in-Sort
 returns-in-Sort c =
-    let s = apart.is_sort_lem c.args.place.0 _ c.taken_apart.ensures _ c.in-Sort.is in
+    let s = apart.is_sort_lem c.args.place.0 _ c.from.ensures _ c.in-Sort.is in
     law.sort_is_settled c.args.flags.now c.args.place.0 s.0
 
 pub returns-in-Node : goal.returns-in-Node
 returns-in-Node c =
     let a = c.args in
-    let n = apart.is_node a.place.0 _ c.taken_apart.ensures _ c.in-Node.is in
+    let n = apart.is_node a.place.0 _ c.from.ensures _ c.in-Node.is in
     law.flag_settles a.flags.now a.place.0 n.0 _ (c.flag.ensures ∙ ap (λ (k : ℕ). get_or a.flags.now k false) n.1)

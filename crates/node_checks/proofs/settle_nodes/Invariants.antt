@@ -1,5 +1,5 @@
 -- The loop's invariant: the flags of the nodes passed. Assumes nothing.
-use Rattle.std.proofs.Common.{◌-◌, ◌≡◌, ◌≤◌, length, take}
+use Rattle.std.proofs.Common.{◌≡◌, ◌≤◌, length, take}
 use Rattle.unification.specs.Acyclic.{nodes_settled}
 use Rattle.node_checks.proofs.settle_nodes.Given as goal
 

@@ -1,5 +1,5 @@
 -- The loop's invariant: the variables passed have their new flags. Assumes nothing.
-use Rattle.std.proofs.Common.{◌-◌, ◌≡◌, ◌≤◌, length, take}
+use Rattle.std.proofs.Common.{◌≡◌, ◌≤◌, length, take}
 use Rattle.unification.specs.Acyclic.{vars_settled}
 use Rattle.unification.specs.Nodes.{binds_of}
 use Rattle.node_checks.proofs.settle_vars.Given as goal

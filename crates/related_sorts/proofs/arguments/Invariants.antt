@@ -5,4 +5,4 @@ use Rattle.infer_nodes.specs.Places.{graph}
 use Rattle.related_sorts.proofs.arguments.Given as goal
 
 abbrev pub invariant-loop-i : goal.invariant-loop-i
-invariant-loop-i l = (l.i ≤ l.count) × (length l.words ≡ 16) × (take l.i l.words ≡ take l.i (parts_of (graph l.places l.id.0)))
+invariant-loop-i l = (l.i ≤ l.count) × (length l.words ≡ 16) × (take l.i l.words ≡ take l.i (parts_of (graph l.places l.fn.id.0)))

@@ -7,11 +7,11 @@ use Rattle.infer_nodes.proofs.Places.row.Goals as goal
 
 pub at-requires : goal.at-requires
 at-requires c = let s = apart.is_sort_lem _ _ c.in-Sort.ensures _ refl in
-    (omega arith, subst (λ (k : ℕ). SmallCount c.args.self.now.sorts.now (4 * k)) (sym s.1) (law.small_sort _ _ _ c.args.self.now.checked _ c.requires s.0))
+    (omega arith, subst (λ (k : ℕ). SmallCount c.args.self.now.sorts.now (4 * k)) (sym s.1) (law.small_sort _ _ _ c.args.self.now.checked _ c.requires s.0), law.sort_inside _ _ _ c.args.self.now.checked _ c.requires s.0 _ s.1)
 
 pub at-requires-in-Node : goal.at-requires-in-Node
 at-requires-in-Node c = let n = apart.is_node _ _ c.in-Node.ensures _ refl in
-    (omega arith, subst (λ (k : ℕ). SmallCount c.args.self.now.nodes.now (4 * k)) (sym n.1) (law.small_node _ _ _ c.args.self.now.checked _ c.requires n.0))
+    (omega arith, subst (λ (k : ℕ). SmallCount c.args.self.now.nodes.now (4 * k)) (sym n.1) (law.small_node _ _ _ c.args.self.now.checked _ c.requires n.0), law.node_inside _ _ _ c.args.self.now.checked _ c.requires n.0 _ n.1)
 
 pub returns-in-Sort : goal.returns-in-Sort
 returns-in-Sort c = let s = apart.is_sort_lem _ _ c.in-Sort.ensures _ refl in

@@ -1,6 +1,6 @@
 -- A place at its end is a sort, a container of what its element is resolved to, a function of what its parts are resolved to, or a free variable.
 -- Assumes nothing.
-use Rattle.std.proofs.Common.{arith, refl, sym, ap, ◌∙◌, Ok}
+use Rattle.std.proofs.Common.{arith, refl, ap, ◌∙◌, Ok}
 use Rattle.unification.specs.Nodes.{node_at}
 use Rattle.infer_nodes.proofs.Apart as apart
 use Rattle.resolver.proofs.Laws as law

@@ -70,21 +70,15 @@ unify-returns-in-None-None-clause-leaves t c = law.parts_tried _ _ _ _ _ _ c.req
     (apart _ _ _ c.eq.ensures c.if-eq.false) (sym c.in-None-None.is-0 ∙ c.variable_at.ensures) (sym c.in-None-None.is-1 ∙ c.variable_at-2.ensures) _ _ _ _ c.unify_parts.ensures.leaves
 
 pub unify_parts-returns-then-not-same_head-clause-leaves : goal.unify_parts-returns-then-not-same_head-clause-leaves
-unify_parts-returns-then-not-same_head-clause-leaves t c = law.other_heads _ _ _ _ _ _ c.requires.0 c.args.l.0 c.args.r.0 c.requires.1 c.requires.2 _ c.if-not-same_head.ensures refl
+unify_parts-returns-then-not-same_head-clause-leaves t c = law.other_heads _ _ _ _ _ _ c.requires.0 c.args.l.0 c.args.r.0 c.requires.1 c.requires.2 _ (c.if-not-same_head.ensures _ _ c.row-left.ensures c.row-right.ensures) refl
 
 pub unify_parts-loop-i-init : goal.unify_parts-loop-i-init
-unify_parts-loop-i-init t c = ((refl, refl, refl, refl, refl), law.parts_begin _ _ _ _ _ _ c.requires.0 c.args.l.0 c.args.r.0 c.requires.1 c.requires.2 _ c.if-not-same_head.ensures refl _ c.part_count-i-end.ensures)
-
-pub unify_parts-part-p-requires : goal.unify_parts-part-p-requires
-unify_parts-part-p-requires t c = law.left_part _ _ _ _ _ _ c.loop-i.invariant.1.trying _ _ _ _ _ _ _ _ c.loop-i.invariant.1 c.loop-i-test.true
-
-pub unify_parts-part-q-requires : goal.unify_parts-part-q-requires
-unify_parts-part-q-requires t c = law.right_part _ _ _ _ _ _ c.loop-i.invariant.1.trying _ _ _ _ _ _ _ _ c.loop-i.invariant.1 c.loop-i-test.true
+unify_parts-loop-i-init t c = ((refl, refl, refl, refl, refl), law.parts_begin _ _ _ _ _ _ c.requires.0 c.args.l.0 c.args.r.0 c.requires.1 c.requires.2 _ (c.if-not-same_head.ensures _ _ c.row-left.ensures c.row-right.ensures) refl _ (c.part_count-i-end.ensures _ c.row-left.ensures))
 
 pub unify_parts-unify-requires : goal.unify_parts-unify-requires
 unify_parts-unify-requires t c = (
-  omega (arith, c.decreases, work_too c.args.self.now.places c.loop-i.self.places c.loop-i.invariant.0.0 c.loop-i.self.binds.now c.loop-i.self.trail.now c.loop-i.self.count c.part-p.result.0, law.part_lower _ _ _ _ _ _ c.loop-i.invariant.1.trying _ _ _ _ _ _ _ _ c.loop-i.invariant.1 c.loop-i-test.true _ _ c.part-p.ensures c.part-q.ensures),
-  (can_try c.args.self.now.places c.loop-i.self.places c.loop-i.invariant.0.0 c.loop-i.self.binds.now c.loop-i.self.trail.now c.loop-i.self.count c.loop-i.invariant.1.trying, placed_too c.args.self.now.places c.loop-i.self.places c.loop-i.invariant.0.0 c.loop-i.self.binds.now c.loop-i.self.trail.now c.loop-i.self.count _ (law.left_placed _ _ _ _ _ _ c.loop-i.invariant.1.trying _ _ _ _ _ _ _ _ c.loop-i.invariant.1 c.loop-i-test.true _ _ c.part-p.ensures c.part-q.ensures), placed_too c.args.self.now.places c.loop-i.self.places c.loop-i.invariant.0.0 c.loop-i.self.binds.now c.loop-i.self.trail.now c.loop-i.self.count _ (law.right_placed _ _ _ _ _ _ c.loop-i.invariant.1.trying _ _ _ _ _ _ _ _ c.loop-i.invariant.1 c.loop-i-test.true _ _ c.part-p.ensures c.part-q.ensures)),
+  omega (arith, c.decreases, work_too c.args.self.now.places c.loop-i.self.places c.loop-i.invariant.0.0 c.loop-i.self.binds.now c.loop-i.self.trail.now c.loop-i.self.count c.part-p.result.0, law.part_lower _ _ _ _ _ _ c.loop-i.invariant.1.trying _ _ _ _ _ _ _ _ c.loop-i.invariant.1 c.loop-i-test.true _ _ (c.part-p.ensures _ c.row-left.ensures (law.left_part _ _ _ _ _ _ c.loop-i.invariant.1.trying _ _ _ _ _ _ _ _ c.loop-i.invariant.1 c.loop-i-test.true).1) (c.part-q.ensures _ c.row-right.ensures (law.right_part _ _ _ _ _ _ c.loop-i.invariant.1.trying _ _ _ _ _ _ _ _ c.loop-i.invariant.1 c.loop-i-test.true).1)),
+  (can_try c.args.self.now.places c.loop-i.self.places c.loop-i.invariant.0.0 c.loop-i.self.binds.now c.loop-i.self.trail.now c.loop-i.self.count c.loop-i.invariant.1.trying, placed_too c.args.self.now.places c.loop-i.self.places c.loop-i.invariant.0.0 c.loop-i.self.binds.now c.loop-i.self.trail.now c.loop-i.self.count _ (law.left_placed _ _ _ _ _ _ c.loop-i.invariant.1.trying _ _ _ _ _ _ _ _ c.loop-i.invariant.1 c.loop-i-test.true _ _ (c.part-p.ensures _ c.row-left.ensures (law.left_part _ _ _ _ _ _ c.loop-i.invariant.1.trying _ _ _ _ _ _ _ _ c.loop-i.invariant.1 c.loop-i-test.true).1) (c.part-q.ensures _ c.row-right.ensures (law.right_part _ _ _ _ _ _ c.loop-i.invariant.1.trying _ _ _ _ _ _ _ _ c.loop-i.invariant.1 c.loop-i-test.true).1)), placed_too c.args.self.now.places c.loop-i.self.places c.loop-i.invariant.0.0 c.loop-i.self.binds.now c.loop-i.self.trail.now c.loop-i.self.count _ (law.right_placed _ _ _ _ _ _ c.loop-i.invariant.1.trying _ _ _ _ _ _ _ _ c.loop-i.invariant.1 c.loop-i-test.true _ _ (c.part-p.ensures _ c.row-left.ensures (law.left_part _ _ _ _ _ _ c.loop-i.invariant.1.trying _ _ _ _ _ _ _ _ c.loop-i.invariant.1 c.loop-i-test.true).1) (c.part-q.ensures _ c.row-right.ensures (law.right_part _ _ _ _ _ _ c.loop-i.invariant.1.trying _ _ _ _ _ _ _ _ c.loop-i.invariant.1 c.loop-i-test.true).1))),
 )
 
 pub unify_parts-loop-i-preserved : goal.unify_parts-loop-i-preserved
@@ -96,7 +90,7 @@ unify_parts-loop-i-preserved t c = (
     c.unify.ensures.keeps.3 ∙ c.loop-i.invariant.0.3,
     c.unify.ensures.keeps.4 ∙ c.loop-i.invariant.0.4,
   ),
-  law.parts_go_on _ _ _ _ _ _ c.loop-i.invariant.1.trying _ _ _ _ _ _ _ _ c.loop-i.invariant.1 c.loop-i-test.true _ _ c.part-p.ensures c.part-q.ensures _ _ _ _ c.if-not-unify.false (leaves_too c.args.self.now.places c.loop-i.self.places c.loop-i.invariant.0.0 c.loop-i.self.binds.now c.loop-i.self.trail.now c.loop-i.self.count _ _ _ _ _ _ c.unify.ensures.leaves) c.unify.ensures.keeps.3 c.unify.ensures.keeps.4,
+  law.parts_go_on _ _ _ _ _ _ c.loop-i.invariant.1.trying _ _ _ _ _ _ _ _ c.loop-i.invariant.1 c.loop-i-test.true _ _ (c.part-p.ensures _ c.row-left.ensures (law.left_part _ _ _ _ _ _ c.loop-i.invariant.1.trying _ _ _ _ _ _ _ _ c.loop-i.invariant.1 c.loop-i-test.true).1) (c.part-q.ensures _ c.row-right.ensures (law.right_part _ _ _ _ _ _ c.loop-i.invariant.1.trying _ _ _ _ _ _ _ _ c.loop-i.invariant.1 c.loop-i-test.true).1) _ _ _ _ c.if-not-unify.false (leaves_too c.args.self.now.places c.loop-i.self.places c.loop-i.invariant.0.0 c.loop-i.self.binds.now c.loop-i.self.trail.now c.loop-i.self.count _ _ _ _ _ _ c.unify.ensures.leaves) c.unify.ensures.keeps.3 c.unify.ensures.keeps.4,
 )
 
 pub unify_parts-returns-then-not-unify-clause-keeps : goal.unify_parts-returns-then-not-unify-clause-keeps
@@ -110,7 +104,7 @@ unify_parts-returns-then-not-unify-clause-keeps t c = (
 
 pub unify_parts-returns-then-not-unify-clause-leaves : goal.unify_parts-returns-then-not-unify-clause-leaves
 unify_parts-returns-then-not-unify-clause-leaves t c =
-    law.part_fails _ _ _ _ _ _ c.loop-i.invariant.1.trying _ _ _ _ _ _ _ _ c.loop-i.invariant.1 c.loop-i-test.true _ _ c.part-p.ensures c.part-q.ensures _ _ _ _ c.if-not-unify.true (leaves_too c.args.self.now.places c.loop-i.self.places c.loop-i.invariant.0.0 c.loop-i.self.binds.now c.loop-i.self.trail.now c.loop-i.self.count _ _ _ _ _ _ c.unify.ensures.leaves)
+    law.part_fails _ _ _ _ _ _ c.loop-i.invariant.1.trying _ _ _ _ _ _ _ _ c.loop-i.invariant.1 c.loop-i-test.true _ _ (c.part-p.ensures _ c.row-left.ensures (law.left_part _ _ _ _ _ _ c.loop-i.invariant.1.trying _ _ _ _ _ _ _ _ c.loop-i.invariant.1 c.loop-i-test.true).1) (c.part-q.ensures _ c.row-right.ensures (law.right_part _ _ _ _ _ _ c.loop-i.invariant.1.trying _ _ _ _ _ _ _ _ c.loop-i.invariant.1 c.loop-i-test.true).1) _ _ _ _ c.if-not-unify.true (leaves_too c.args.self.now.places c.loop-i.self.places c.loop-i.invariant.0.0 c.loop-i.self.binds.now c.loop-i.self.trail.now c.loop-i.self.count _ _ _ _ _ _ c.unify.ensures.leaves)
 
 pub unify_parts-returns-clause-keeps : goal.unify_parts-returns-clause-keeps
 unify_parts-returns-clause-keeps t c = c.loop-i.invariant.0

@@ -15,9 +15,9 @@ decreases-unify_parts l = work_of l.self.now.places.sorts.now l.self.now.places.
 
 abbrev pub invariant-unify_parts-loop-i : goal.invariant-unify_parts-loop-i
 invariant-unify_parts-loop-i l =
-    ((l.self.places ≡ l.places) × (l.self.binds.ghost_name ≡ l.initial.self.binds.ghost_name) × (l.self.trail.ghost_name ≡ l.initial.self.trail.ghost_name)
+    ((l.self.places ≡ l.initial.self.places) × (l.self.binds.ghost_name ≡ l.initial.self.binds.ghost_name) × (l.self.trail.ghost_name ≡ l.initial.self.trail.ghost_name)
     × (length l.self.binds.now ≡ length l.initial.self.binds.now) × (length l.self.trail.now ≡ length l.initial.self.trail.now))
-    × Unifying l.places.sorts.now l.places.nodes.now l.places.lengths l.l.0 l.r.0 l.i-end
-    (unify_shapes (graph_at l.places) deep (unifyOf (graph_at l.places)) (binds_of l.initial.self.binds.now l.places.lengths.variables)
-    l.l.0 (graph_at l.places l.l.0) l.r.0 (graph_at l.places l.r.0))
+    × Unifying l.initial.self.places.sorts.now l.initial.self.places.nodes.now l.initial.self.places.lengths l.fn.l.0 l.fn.r.0 l.i-end
+    (unify_shapes (graph_at l.initial.self.places) deep (unifyOf (graph_at l.initial.self.places)) (binds_of l.initial.self.binds.now l.initial.self.places.lengths.variables)
+    l.fn.l.0 (graph_at l.initial.self.places l.fn.l.0) l.fn.r.0 (graph_at l.initial.self.places l.fn.r.0))
     l.initial.self.binds.now l.initial.self.trail.now l.initial.self.count l.self.binds.now l.self.trail.now l.self.count l.i

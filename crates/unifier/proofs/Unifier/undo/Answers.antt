@@ -1,5 +1,5 @@
 -- Undoing one more leaves the rest to undo. Assumes nothing.
-use Rattle.std.proofs.Common.{refl, sym, ap, ◌∙◌, get_or, ◌-◌, set}
+use Rattle.std.proofs.Common.{refl, ap, ◌∙◌, get_or, ◌-◌, set}
 use Rattle.unification.specs.Nodes.{free_word}
 use Rattle.unifier.proofs.Tries as law
 use Rattle.unifier.proofs.Unifier.undo.Goals as goal

@@ -1,6 +1,5 @@
 -- The invariant: undoing what is left comes to undoing all, and the places and the trail stay. Assumes nothing.
 use Rattle.std.proofs.Common.{◌≡◌}
-use Rattle.unifier.specs.Unifier.{Keeps}
 use Rattle.unifier.proofs.Tries.{Undoing}
 use Rattle.unifier.proofs.Unifier.undo.Given as goal
 
