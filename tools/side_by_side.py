@@ -68,8 +68,10 @@ def named_in_documents(trees):
     for tree in trees:
         for path, text in tree.items():
             if path.endswith(".antt"):
-                for law in source.declared(text):
-                    owners[law.name].add(path.split("/")[1])
+                # declarations, and fields of records
+                fields = re.findall(r"^ *(?:pub )?(\w+) : ", text, re.M)
+                for name in [law.name for law in source.declared(text)] + fields:
+                    owners[name].add(path.split("/")[1])
             heading = set()
             for line in text.split("\n") if DOCS.fullmatch(path) else []:
                 words = set(re.findall(r"\w+", line))
