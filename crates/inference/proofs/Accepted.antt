@@ -43,7 +43,7 @@ use Rattle.inference.proofs.Members.{length_rows, all_rows, row_at_lem, all_rows
 use Rattle.inference.specs.Inner.Listed.{ListedConstraint, sub_listed, lit_listed, disjunction_listed, comprehension_listed, join_listed}
 
 -- no refusal has the code 0
-refusal_above_0 : (r : Refusal) → 0 < code_of r
+pub refusal_above_0 : (r : Refusal) → 0 < code_of r
 unfolding code_of
 refusal_above_0 NotLent = omega arith
 refusal_above_0 NotFixedSix = omega arith

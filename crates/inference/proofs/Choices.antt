@@ -19,7 +19,8 @@ use Rattle.unification.specs.Nodes.{Binds}
 use Rattle.unification.specs.Making.{Lent}
 use Rattle.inference.specs.declared.ExprId.{ExprId}
 use Rattle.inference.specs.declared.Outputs.{Outputs}
-use Rattle.inference.specs.declared.Solved.TheVariants.{Typing}
+use Rattle.std.specs.Prelude.{Ok}
+use Rattle.inference.specs.declared.Verdict.TheVariants.{Typing}
 use Rattle.inference.specs.declared.Constraint.{Constraint}
 use Rattle.inference.specs.declared.Constraint.TheVariants.{Sub, Lit, Disjunction, Comprehension, Join}
 use Rattle.inference.specs.Constraints.{BaseName, Problem}
@@ -29,11 +30,11 @@ use Rattle.inference.specs.Typing.{All, none_left, and_all, In, here, there}
 use Rattle.inference.specs.SolveChecks.{Call, given, disjunction_for, disjunctions, among, no_two, components_of, components}
 use Rattle.inference.specs.SolveEntry.{problem_of, base_names_of, start_path, lent_of, searched, SolveLeft}
 use Rattle.inference.specs.SolveEntry.{counts_in, typed, judged_by, judged, verdict, nothing_met, solve_entry}
-use Rattle.inference.specs.SolveEntry.{code_solved, choices_out}
+use Rattle.inference.specs.SolveEntry.{room_refusal, code_solved, choices_out}
 use Rattle.inference.proofs.Members.{not_in_nothing, in_cases, first_in, in_right}
 use Rattle.inference.proofs.HandedOut.{choices_read}
 use Rattle.inference.specs.Inner.Listed.{ListedConstraint, sub_listed, lit_listed, disjunction_listed, comprehension_listed, join_listed}
-use Rattle.inference.proofs.Accepted.{Accepted, refused_or_searched}
+use Rattle.inference.proofs.Accepted.{Accepted, refusal_above_0, refused_or_searched}
 use Rattle.inference.proofs.Branches.{newcomer, NoChoice, Chooses, Choosing, none_to_choose, and_chooses, width_of, width, Goes, leaf_goes, search_goes}
 use Rattle.inference.specs.Named.{expr_of, choice, ChosenFor, Named}
 
@@ -271,8 +272,7 @@ module _ (I : Call) (A : Accepted I) where
   unfolding Goes code_solved
   searched_typed w f (found v) x q = judged_typed v.lent v.best (x f) q
   searched_typed w f (missed v) x q = judged_typed v.lent v.best (x f) q
-  searched_typed w f (ended c W) (inl i) q = absurd (omega (arith, i, q))
-  searched_typed w f (ended c W) (inr i) q = absurd (omega (arith, i, q))
+  searched_typed w f (ended c W) x q = absurd (omega (arith, refusal_above_0 (room_refusal c), q))
 
 pub code_0_typed : (I : Call) → code_solved (solve_entry I).answer ≡ 0 → IsTyping I (solve_entry I)
 unfolding FitsBest code_solved
@@ -281,17 +281,17 @@ code_0_typed I =
     refused_or_searched I (λ left. code_solved left.answer ≡ 0 → IsTyping I left) (λ c l q. absurd (omega (arith, l, q)))
     (λ A. searched_typed I A w tt (searched (Unit {0}) nothing_met tt I) (search_fits (Unit {0}) nothing_met (problem_of I) (given I) (start_path I).binds w))
 
-pub names_and_choices : (I : Call) (o : Outputs) → (solve_entry I).answer ≡ Typing o → Named I (solve_entry I) o (choices_out (solve_entry I) o)
+pub names_and_choices : (I : Call) (o : Outputs) → (solve_entry I).answer ≡ Ok (Typing o) → Named I (solve_entry I) o (choices_out (solve_entry I) o)
 unfolding code_solved
 names_and_choices I o e = named (solve_entry I) t.is e
   where
     t : IsTyping I (solve_entry I)
     t = code_0_typed I (ap code_solved e)
 
-    named : (L : SolveLeft) → L ≡ typed I t.lent t.candidate → L.answer ≡ Typing o → Named I L o (choices_out L o)
+    named : (L : SolveLeft) → L ≡ typed I t.lent t.candidate → L.answer ≡ Ok (Typing o) → Named I L o (choices_out L o)
     named L i a =
         let ks = t.candidate.choices in
-        let b : (typed I t.lent t.candidate).answer ≡ Typing o = ap (λ (z : SolveLeft). z.answer) (sym i) ∙ a in
+        let b : (typed I t.lent t.candidate).answer ≡ Ok (Typing o) = ap (λ (z : SolveLeft). z.answer) (sym i) ∙ a in
         let q : o ≡ record { counts = counts_in t.lent; components = length t.candidate.measure; choices = length t.candidate.choices } = cc in
         let r : choices_out L o ≡ ks = ap (λ (z : SolveLeft). choices_out z o) i ∙
         (ap (λ (z : Outputs). choices_out (typed I t.lent t.candidate) z) q ∙ choices_read

@@ -12,7 +12,7 @@ use lib.Dec.{ltb}
 use lib.ListN.{length}
 use borrow.Author.Tests.{ltb-true, ltb-false, lt-ltb}
 use Rattle.std.specs.Prelude.{Ok}
-use Rattle.resolved_sort.specs.Checks.{first_failing}
+use Rattle.resolved_sort.specs.Checks.{first_failing, code_of as code_of_refusal}
 use Rattle.unification.specs.Making.{Lent}
 use Rattle.inference.specs.declared.Constraint.{Constraint}
 use Rattle.inference.specs.Constraints.{Problem}
@@ -20,7 +20,8 @@ use Rattle.inference.specs.Measure.{Components, smaller, equal, greater, compare
 use Rattle.inference.specs.Search.{Path, Candidate, World, Out, found, missed, ended, lending, keeping, marked_tied, leaf, solve}
 use Rattle.inference.specs.Typing.{All, none_left, and_all, In, here, there}
 use Rattle.inference.specs.SolveChecks.{Call, given, solve_checks}
-use Rattle.inference.specs.SolveEntry.{problem_of, start_path, lent_of, written_over, counts_in, judged_by, judged, verdict, solve_entry, code_solved}
+use Rattle.inference.specs.SolveEntry.{problem_of, start_path, lent_of, written_over, counts_in, judged_by, judged, room_refusal, verdict}
+use Rattle.inference.specs.SolveEntry.{solve_entry, code_solved}
 use Rattle.inference.proofs.Accepted.{passed_is_searched}
 use Rattle.inference.proofs.Members.{not_in_nothing, in_all, all_weaker}
 use Rattle.inference.proofs.Measures.{compare_self, equal_are_one, smaller_is_at_most, at_most_self}
@@ -224,11 +225,11 @@ module _ (I : Call) (W : Lent) (ms : List Components) where
 searched_by_leaves : (I : Call) (w : World (List Components)) → Kept w.best w.met → (o : Out (List Components))
     → Goes Went w o → (code_of (verdict I o) ≡ 15 → ⊥) → (code_of (verdict I o) ≡ 16 → ⊥)
     → ByLeaves I (verdict I o) (met_of o)
-unfolding Goes code_solved
+unfolding Goes code_solved room_refusal code_of_refusal
 searched_by_leaves I w k (found v) x f s = judged_by_leaves I v.lent v.met v.best (x.kept k)
 searched_by_leaves I w k (missed v) x f s = judged_by_leaves I v.lent v.met v.best (x.kept k)
-searched_by_leaves I w k (ended c W) (inl i) f s = absurd (f i)
-searched_by_leaves I w k (ended c W) (inr i) f s = absurd (s i)
+searched_by_leaves I w k (ended c W) (inl i) f s = absurd (f (ap (λ n. code_of_refusal (room_refusal n)) i))
+searched_by_leaves I w k (ended c W) (inr i) f s = absurd (s (ap (λ n. code_of_refusal (room_refusal n)) i))
 
 pub verdict_by_leaves : (I : Call) → first_failing (solve_checks I) ≡ Ok tt → (code_of (solve_entry I) ≡ 15 → ⊥)
     → (code_of (solve_entry I) ≡ 16 → ⊥) → ByLeaves I (solve_entry I) (leaves_met I)

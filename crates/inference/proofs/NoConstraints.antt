@@ -6,16 +6,15 @@ use mathlib.Core.List.{List, []}
 use mathlib.Core.Option.{none}
 use mathlib.Core.Logic.{inl, inr}
 use Prim.Native.Nat.{ℕ}
-use Rattle.std.specs.Prelude.{Ok}
+use Rattle.std.specs.Prelude.{Ok, Err}
 use Rattle.resolved_sort.specs.Checks.{first_failing}
 use Rattle.std.specs.Prelude.{Some as Is}
 use Rattle.unification.specs.Making.{Lent, Makes, made, no_list, no_room}
 use Rattle.inference.specs.declared.Constraint.{Constraint}
-use Rattle.inference.specs.declared.Solved.TheVariants.{NoRoom}
 use Rattle.inference.specs.Constraints.{constraint_at, rows_from, Problem}
 use Rattle.inference.specs.Search.{World, found, missed, keeping, on_made, resolve_all, leaf, solve}
 use Rattle.inference.specs.SolveChecks.{Call, given, solve_checks}
-use Rattle.inference.specs.SolveEntry.{SolveLeft, problem_of, start_path, lent_of, verdict, nothing_met, solve_entry, TypingOr15}
+use Rattle.inference.specs.SolveEntry.{SolveLeft, problem_of, start_path, lent_of, room_refusal, verdict, nothing_met, solve_entry, TypingOr15}
 use Rattle.inference.proofs.Accepted.{Accepted, accepted, passed_is_searched}
 use Rattle.inference.proofs.Invariant.{sorts_only_refl}
 use Rattle.inference.proofs.MakingSorts.{MadeSorts, StandAll, resolve_all_makes}
@@ -35,10 +34,10 @@ module _ (I : Call) where
       (verdict I (on_made O (λ ss v. found (keeping (Unit {0}) nothing_met P v (start_path I)
       (record { measure = (start_path I).measure; sorts = ss; choices = (start_path I).choices; duplicate = false })))
       missed first_world)).answer
-  unfolding MadeSorts
+  unfolding MadeSorts room_refusal
   by_made (made ss W') h = inl (_, refl)
   by_made (no_list W') h = absurd h.1
-  by_made (no_room c W') h = inr (ap NoRoom h.1)
+  by_made (no_room c W') h = inr (ap (λ n. Err (room_refusal n)) h.1)
 
   one_leaf : Accepted I → TypingOr15 (verdict I (solve (Unit {0}) nothing_met P [] (start_path I) first_world)).answer
   unfolding solve leaf

@@ -12,7 +12,7 @@ use lib.Dec.{eqb}
 use lib.ListN.{length, get_or, length-map}
 use lib.Seq.{take-append_seam}
 use Rattle.resolved_sort.specs.declared.Refusal.{Refusal}
-use Rattle.std.specs.Prelude.{Err}
+use Rattle.std.specs.Prelude.{Ok, Err}
 use Rattle.resolved_sort.specs.declared.Run.{Run}
 use Rattle.resolved_sort.specs.declared.Sort.{Sort}
 use Rattle.resolved_sort.specs.declared.Counts.{Counts}
@@ -32,8 +32,7 @@ use Rattle.unification.specs.Growing.{CheckedLent, Grows, with_sort_words}
 use Rattle.unification.proofs.SortsGrow.{agreeing_sorts_grow}
 use Rattle.inference.specs.declared.ExprId.{ExprId}
 use Rattle.inference.specs.declared.Outputs.{Outputs}
-use Rattle.inference.specs.declared.Solved.{Solved}
-use Rattle.inference.specs.declared.Solved.TheVariants.{Refused, NoRoom, NoTyping, Ambiguous, Typing}
+use Rattle.inference.specs.declared.Verdict.TheVariants.{NoTyping, Ambiguous, Typing}
 use Rattle.inference.specs.declared.Constraint.{Constraint}
 use Rattle.inference.specs.declared.Constraint.TheVariants.{Disjunction}
 use Rattle.inference.specs.Constraints.{Problem}
@@ -43,8 +42,8 @@ use Rattle.inference.specs.Names.{run_for, overload_in, chosen_name, base_name, 
 use Rattle.inference.specs.Typing.{Assignment, Has, In, Typed, all_typed, and_typed, Meets, HoldsTogether}
 use Rattle.inference.specs.Typing.{NumberSort, is_pos, is_nat, is_int, is_real}
 use Rattle.inference.specs.SolveChecks.{Call, given, disjunctions, among, components, solve_checks}
-use Rattle.inference.specs.SolveEntry.{problem_of, base_names_of, lent_of, SolveLeft, solve_entry, code_solved, measure_out}
-use Rattle.inference.specs.SolveEntry.{choices_out, TypingOr15}
+use Rattle.inference.specs.SolveEntry.{Solved, problem_of, base_names_of, lent_of, SolveLeft, room_refusal, solve_entry}
+use Rattle.inference.specs.SolveEntry.{code_solved, measure_out, choices_out, TypingOr15}
 use Rattle.inference.specs.Explained.{Explained}
 use Rattle.inference.specs.Named.{expr_of, choice, Named}
 use Rattle.inference.specs.Leaves.{once, times, Least, met_of, code_of, HandsOut, ByLeaves}
@@ -174,7 +173,7 @@ none_counted_in_none m = refl
 pub verdict_says : (I : Call) (L : SolveLeft) (ms : List Components) → ByLeaves I L ms
     → ((code_of L ≡ 17) ↔ (ms ≡ []))
     × ((m : Components) → Least m ms → (times m ms ≡ 1 → code_of L ≡ 0) × (1 < times m ms → code_of L ≡ 18))
-    × ((m : Components) (o : Outputs) → Least m ms → L.answer ≡ Typing o → measure_out L o ≡ m)
+    × ((m : Components) (o : Outputs) → Least m ms → L.answer ≡ Ok (Typing o) → measure_out L o ≡ m)
     × (code_of L ≡ 0 → (m : Components) × Least m ms × (times m ms ≡ 1))
     × (code_of L ≡ 18 → (m : Components) × Least m ms × (1 < times m ms))
 unfolding code_solved
@@ -198,9 +197,14 @@ pub refused_with_the_first_failing : (I : Call) (c : Refusal) → first_failing 
 unfolding solve_entry code_solved
 refused_with_the_first_failing I c e = rw e refl
 
+-- Room that ended is refused by its number.
+pub room_refused_by_number : (code_of_refusal (room_refusal 15) ≡ 15) × (code_of_refusal (room_refusal 16) ≡ 16)
+unfolding room_refusal code_of_refusal
+room_refused_by_number = (refl, refl)
+
 -- Lists that are left
 pub counts_told_with_each : (k : Counts) (o : Outputs)
-    → (counts_told (NoTyping k) ≡ some k) × (counts_told (Ambiguous k) ≡ some k) × (counts_told (Typing o) ≡ some o.counts)
+    → (counts_told (Ok (NoTyping k)) ≡ some k) × (counts_told (Ok (Ambiguous k)) ≡ some k) × (counts_told (Ok (Typing o)) ≡ some o.counts)
 counts_told_with_each k o = (refl, refl, refl)
 
 module _ (I : Call) (c : CheckedLent (lent_of I)) (ws : List ℕ) (k : Counts) (g : SortsGrown I ws k) where
@@ -232,6 +236,6 @@ given_words_stand_without_room I Met c W e = e
 
 -- "a typing unless sort room ends (code 15)"
 pub typing_or_15_is_0_or_15 : (r : Solved) → TypingOr15 r → (code_solved r ≡ 0) ⊎ (code_solved r ≡ 15)
-unfolding code_solved
+unfolding code_solved code_of_refusal
 typing_or_15_is_0_or_15 r (inl (o, e)) = inl (ap code_solved e)
 typing_or_15_is_0_or_15 r (inr e) = inr (ap code_solved e)

@@ -24,7 +24,8 @@ use Rattle.inference.specs.declared.LitKind.{LitKind}
 use Rattle.inference.specs.declared.LitKind.TheVariants.{Positive, Natural}
 use Rattle.inference.specs.declared.Constraint.{Constraint}
 use Rattle.inference.specs.declared.Outputs.{Outputs}
-use Rattle.inference.specs.declared.Solved.TheVariants.{Typing}
+use Rattle.std.specs.Prelude.{Ok}
+use Rattle.inference.specs.declared.Verdict.TheVariants.{Typing}
 use Rattle.inference.specs.Constraints.{Problem}
 use Rattle.inference.specs.Measure.{Components}
 use Rattle.inference.specs.Search.{Path, Choice, Candidate, Out, found, missed, ended, sort_in, lit_component}
@@ -110,7 +111,7 @@ module _ (I : Call) where
       A.constraints (start_path I) (record { lent = W₀; best = none; met = m })
       (record { grown = grows_refl W₀ A.ready.nodes; binds = A.ready.binds; refines = λ σ r. r; costs = λ ρ r. nothing_costs }) tt
 
-  explained : (W : Lent) (c : Candidate) → Fine W₀ B₀ P W c → (o : Outputs) → (judged_by I W c false).answer ≡ Typing o → Explained I (judged_by I W c false) o
+  explained : (W : Lent) (c : Candidate) → Fine W₀ B₀ P W c → (o : Outputs) → (judged_by I W c false).answer ≡ Ok (Typing o) → Explained I (judged_by I W c false) o
   explained W c f o e =
       let L : SolveLeft = judged_by I W c false in
       let q : o ≡ record { counts = counts_in W; components = length c.measure; choices = length c.choices } = cc in
@@ -143,29 +144,29 @@ module _ (I : Call) where
       }
 
   by_candidate : (W : Lent) (c : Candidate) → Fine W₀ B₀ P W c → (o : Outputs) (b : Bool)
-      → (judged_by I W c b).answer ≡ Typing o → Explained I (judged_by I W c b) o
+      → (judged_by I W c b).answer ≡ Ok (Typing o) → Explained I (judged_by I W c b) o
   by_candidate W c f o true e = no_confusion cc
   by_candidate W c f o false e = explained W c f o e
 
-  by_best : (W : Lent) (b : Option Candidate) → FineBest W₀ B₀ P W b → (o : Outputs) → (judged I W b).answer ≡ Typing o → Explained I (judged I W b) o
+  by_best : (W : Lent) (b : Option Candidate) → FineBest W₀ B₀ P W b → (o : Outputs) → (judged I W b).answer ≡ Ok (Typing o) → Explained I (judged I W b) o
   unfolding FineBest
   by_best W none f o e = no_confusion cc
   by_best W (some c) f o e = by_candidate W c f o c.duplicate e
 
-  by_verdict : (O : Out (Unit {0})) → Leaves W₀ B₀ P (Unit {0}) W₀ O → (o : Outputs) → (verdict I O).answer ≡ Typing o → Explained I (verdict I O) o
+  by_verdict : (O : Out (Unit {0})) → Leaves W₀ B₀ P (Unit {0}) W₀ O → (o : Outputs) → (verdict I O).answer ≡ Ok (Typing o) → Explained I (verdict I O) o
   unfolding Leaves
   by_verdict (found w) l o e = by_best w.lent w.best l.best o e
   by_verdict (missed w) l o e = by_best w.lent w.best l.best o e
   by_verdict (ended d W) l o e = no_confusion cc
 
   -- Every typing is explained: no premise but code 0.
-  pub every_typing_is_explained : (o : Outputs) → (solve_entry I).answer ≡ Typing o → Explained I (solve_entry I) o
+  pub every_typing_is_explained : (o : Outputs) → (solve_entry I).answer ≡ Ok (Typing o) → Explained I (solve_entry I) o
   every_typing_is_explained o =
-      refused_or_searched I (λ L. L.answer ≡ Typing o → Explained I L o) (λ c l e. no_confusion cc)
+      refused_or_searched I (λ L. L.answer ≡ Ok (Typing o) → Explained I L o) (λ c l e. no_confusion cc)
       (λ A. by_verdict (searched (Unit {0}) nothing_met tt I) (search_leaves A (Unit {0}) nothing_met tt) o)
 
   -- Demand 3.
-  pub typing_holds_together : (o : Outputs) → (solve_entry I).answer ≡ Typing o
+  pub typing_holds_together : (o : Outputs) → (solve_entry I).answer ≡ Ok (Typing o)
       → HoldsTogether (graph W₀) (sort_in W₀) (tree_at (solve_entry I).sorts o.counts.sorts) o.counts.sorts B₀ P
       (sorts_out I (solve_entry I)) (choices_out (solve_entry I) o)
   typing_holds_together o e =

@@ -1,13 +1,13 @@
 -- The verdict by the leaves that the search met: "17. The search ended with no typing. 18. The least measure was
 -- met by more than one leaf".
-use Rattle.std.specs.Prelude.{◌≡◌, List, [], ◌∷◌, ℕ, ◌+◌, ◌<◌, ◌↔◌, length}
+use Rattle.std.specs.Prelude.{◌≡◌, List, [], ◌∷◌, ℕ, ◌+◌, ◌<◌, ◌↔◌, length, Ok}
 use Rattle.inference.specs.Measure.{Components, Ranking, smaller, equal, greater, compare, AtMost}
 use Rattle.unification.specs.Making.{Lent}
 use Rattle.inference.specs.Search.{Path, Out, found, missed, ended}
 use Rattle.inference.specs.SolveChecks.{Call}
 use Rattle.inference.specs.SolveEntry.{searched, SolveLeft, written_over, code_solved}
 use Rattle.inference.specs.declared.Outputs.{Outputs}
-use Rattle.inference.specs.declared.Solved.TheVariants.{Typing}
+use Rattle.inference.specs.declared.Verdict.TheVariants.{Typing}
 use Rattle.inference.specs.Typing.{All, In}
 
 -- the measures of all leaves met, the last first
@@ -48,7 +48,7 @@ code_of left = code_solved left.answer
 -- m is handed out as the measure
 pub record HandsOut (I : Call) (left : SolveLeft) (m : Components) : Type 0 where
   pub outputs : Outputs
-  pub answer : left.answer ≡ Typing outputs
+  pub answer : left.answer ≡ Ok (Typing outputs)
   pub count : outputs.components ≡ length m
   pub measure : left.measure ≡ written_over m I.measure
 

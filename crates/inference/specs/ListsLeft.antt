@@ -1,23 +1,22 @@
 -- What a call leaves of the lists: sorts that only grow, and nodes as given.
-use Rattle.std.specs.Prelude.{◌≡◌, List, ℕ, ◌≤◌, length}
+use Rattle.std.specs.Prelude.{◌≡◌, List, ℕ, ◌≤◌, length, Ok, Err}
 use Rattle.std.proofs.Math.Option.{Option, none, some}
 use Rattle.resolved_sort.specs.declared.Counts.{Counts}
 use Rattle.resolved_sort.specs.Rows.{Checked}
 use Rattle.resolved_sort.specs.Growing.{Agrees}
 use Rattle.unification.specs.Making.{Lent}
 use Rattle.unification.specs.Growing.{NodesAgree}
-use Rattle.inference.specs.declared.Solved.{Solved}
-use Rattle.inference.specs.declared.Solved.TheVariants.{Refused, NoRoom, NoTyping, Ambiguous, Typing}
+use Rattle.inference.specs.declared.Verdict.TheVariants.{NoTyping, Ambiguous, Typing}
 use Rattle.inference.specs.Search.{Out, found, missed, ended}
 use Rattle.inference.specs.SolveChecks.{Call}
+use Rattle.inference.specs.SolveEntry.{Solved}
 
 -- the counts that an answer gives of a list that is kept
 abbrev pub counts_told : Solved → Option Counts
-counts_told (Refused c) = none
-counts_told (NoRoom c) = none
-counts_told (NoTyping k) = some k
-counts_told (Ambiguous k) = some k
-counts_told (Typing o) = some o.counts
+counts_told (Err r) = none
+counts_told (Ok (NoTyping k)) = some k
+counts_told (Ok (Ambiguous k)) = some k
+counts_told (Ok (Typing o)) = some o.counts
 
 -- the sorts of ws, of which k counts, have grown from those given
 pub record SortsGrown (I : Call) (ws : List ℕ) (k : Counts) : Type 0 where

@@ -1,6 +1,7 @@
 -- The 11 starred situations of document 01, as one list with its 13 runs: what is given, and code, sorts of the
 -- expressions and measure.
-use Rattle.std.specs.Prelude.{Bool, List, [], ◌∷◌, ◌++◌, map, ℕ, ◌+◌, ◌*◌, ◌-◌, ◌/◌, length, replicate, take, get_or}
+use Rattle.std.specs.Prelude.{Bool, List, [], ◌∷◌, ◌++◌, map, ℕ, ◌+◌, ◌*◌, ◌-◌, ◌/◌, length, replicate, take, get_or, Ok}
+use Rattle.std.specs.Prelude.{Err}
 use Rattle.resolved_sort.specs.declared.Sort.{Sort}
 use Rattle.resolved_sort.specs.Tree.{Tree, flat, primitive, function, no_args, arg}
 use Rattle.resolved_sort.specs.Tree as Tree
@@ -22,8 +23,7 @@ use Rattle.unification.specs.Solutions as Solutions
 use Rattle.unification.specs.Resolve as Resolve
 use Rattle.unification.specs.Related as Related
 use Rattle.unification.specs.Making as Making
-use Rattle.inference.specs.declared.Solved.{Solved}
-use Rattle.inference.specs.declared.Solved.TheVariants.{Refused, NoRoom, NoTyping, Ambiguous, Typing}
+use Rattle.inference.specs.declared.Verdict.TheVariants.{NoTyping, Ambiguous, Typing}
 use Rattle.inference.specs.Constraints.{max_constraints, max_components, constraint_words, overload_words, name_words}
 use Rattle.inference.specs.Constraints as Constraints
 use Rattle.inference.specs.Measure as Measure
@@ -31,7 +31,7 @@ use Rattle.inference.specs.Search as Search
 use Rattle.inference.specs.Names as Names
 use Rattle.inference.specs.SolveChecks.{Call, scratch_words, typing_words, choice_words}
 use Rattle.inference.specs.SolveChecks as SolveChecks
-use Rattle.inference.specs.SolveEntry.{SolveLeft, solve_entry, code_solved}
+use Rattle.inference.specs.SolveEntry.{Solved, SolveLeft, solve_entry, code_solved}
 use Rattle.inference.specs.SolveEntry as SolveEntry
 
 -- a list: sorts after the fixed six with their entries, nodes with their arguments, variables, expressions, base
@@ -115,7 +115,7 @@ unfolding Checks.all_below Checks.within_lent Checks.fixed_six Checks.parts_belo
     Constraints.lit_kind Constraints.constraint Constraints.rows_from Search.resolve_in Search.join_in Search.resolve_all
     Search.join_all Search.agreed Search.join_of Search.lit_component Search.unifying Search.first_found Search.widening
     Search.literal Search.every_reading Search.every_overload Search.sequence Search.joining Search.step Search.leaf
-    Search.solve SolveEntry.typing_rows SolveEntry.choice_rows SolveEntry.solve_entry SolveEntry.code_solved
+    Search.solve SolveEntry.typing_rows SolveEntry.choice_rows SolveEntry.solve_entry SolveEntry.room_refusal SolveEntry.code_solved
     Measure.compare Measure.worse SolveChecks.all_within_lent SolveChecks.rows_within_lent SolveChecks.outputs_long
     SolveChecks.target_fine SolveChecks.exprs_fine SolveChecks.names_fine SolveChecks.overload_fine
     SolveChecks.constraints_fine SolveChecks.disjunctions SolveChecks.among SolveChecks.no_two SolveChecks.joins_fine
@@ -129,11 +129,10 @@ pub record Ran : Type 0 where
   pub measure : List ℕ
 
 abbrev pub typed_of : SolveLeft → Solved → List ℕ → List Tree × List ℕ
-typed_of L (Refused c) xs = ([], [])
-typed_of L (NoRoom c) xs = ([], [])
-typed_of L (NoTyping k) xs = ([], [])
-typed_of L (Ambiguous k) xs = ([], [])
-typed_of L (Typing o) xs = (
+typed_of L (Err r) xs = ([], [])
+typed_of L (Ok (NoTyping k)) xs = ([], [])
+typed_of L (Ok (Ambiguous k)) xs = ([], [])
+typed_of L (Ok (Typing o)) xs = (
   map (λ i. tree_at L.sorts o.counts.sorts (get_or L.typing (3 * i) 0)) xs,
   take
       o.components L.measure,

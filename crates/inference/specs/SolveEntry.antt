@@ -1,9 +1,11 @@
 -- The solver's outcome for every call: the first failing check, or what the search comes to, with
 -- all lent memory as it is then.
-use Rattle.resolved_sort.specs.declared.Refusal.{Refusal}
-use Rattle.std.specs.Prelude.{Bool, true, false, List, [], ◌∷◌, ◌++◌, ℕ, ◌+◌, ◌*◌, length, get_or, take, drop, replicate, ◌≡◌, ◌⊎◌}
+use Rattle.std.specs.Prelude.{◌≡◌, ◌⊎◌, Bool, true, false, cond, List, [], ◌∷◌, ◌++◌, ℕ, ◌+◌, ◌*◌, eqb, Result, Ok}
+use Rattle.std.specs.Prelude.{Err, length, get_or, take, drop, replicate}
 use Rattle.std.proofs.Math.Option.{Option, none, some}
 use Rattle.resolved_sort.specs.declared.Counts.{Counts}
+use Rattle.resolved_sort.specs.declared.Refusal.{Refusal}
+use Rattle.resolved_sort.specs.declared.Refusal.TheVariants.{SortsFull, NodesFull}
 use Rattle.resolved_sort.specs.Storage.{row_words, given_back}
 use Rattle.words.specs.Words.{zeros}
 use Rattle.resolved_sort.specs.Checks.{first_failing, code_of}
@@ -11,8 +13,8 @@ use Rattle.resolved_sort.specs.Entries.{refused_or}
 use Rattle.unification.specs.Nodes.{node_entries_at, binds_of}
 use Rattle.unification.specs.Making.{Lent}
 use Rattle.inference.specs.declared.Outputs.{Outputs}
-use Rattle.inference.specs.declared.Solved.{Solved}
-use Rattle.inference.specs.declared.Solved.TheVariants.{Refused, NoRoom, NoTyping, Ambiguous, Typing}
+use Rattle.inference.specs.declared.Verdict.{Verdict}
+use Rattle.inference.specs.declared.Verdict.TheVariants.{NoTyping, Ambiguous, Typing}
 use Rattle.inference.specs.Constraints.{overload_at, BaseName, base_name_at, rows_from, Problem}
 use Rattle.inference.specs.Measure.{Components}
 use Rattle.inference.specs.Search.{Choice, Path, Candidate, Out, found, missed, ended, solve}
@@ -47,6 +49,10 @@ lent_of I = record { sorts = I.sorts; nodes = I.nodes; lengths = I.lengths }
 abbrev pub searched : (Met : Type 0) → (Path → Lent → Met → Met) → Met → Call → Out Met
 searched Met meet m I =
     solve Met meet (problem_of I) (given I) (start_path I) (record { lent = lent_of I; best = none; met = m })
+
+-- What a call answers: the verdict of its search, or why there is none: the first failing check, or the room that ended.
+abbrev pub Solved : Type 0
+Solved = Result Verdict Refusal
 
 -- What a call leaves: its answer, and all lent memory.
 pub record SolveLeft : Type 0 where
@@ -83,7 +89,7 @@ left_with I r ws ts ms cs =
 abbrev pub refused : Call → Refusal → SolveLeft
 refused I c =
     record {
-      answer = Refused c;
+      answer = Err c;
       sorts = I.sorts;
       nodes = I.nodes;
       binds = I.binds;
@@ -114,26 +120,30 @@ counts_in W = record { sorts = W.lengths.sorts; entries = W.lengths.entries }
 abbrev pub typed : Call → Lent → Candidate → SolveLeft
 typed I W c =
     left_with I
-    (Typing (record { counts = counts_in W; components = length c.measure; choices = length c.choices }))
+    (Ok (Typing (record { counts = counts_in W; components = length c.measure; choices = length c.choices })))
     W.sorts
     (written_over (typing_rows (problem_of I) (base_names_of I) c.choices 0 c.sorts) I.typing)
     (written_over c.measure I.measure) (written_over (choice_rows c.choices) I.choices)
 
 abbrev pub judged_by : Call → Lent → Candidate → Bool → SolveLeft
-judged_by I W c true = left_with I (Ambiguous (counts_in W)) W.sorts I.typing I.measure I.choices
+judged_by I W c true = left_with I (Ok (Ambiguous (counts_in W))) W.sorts I.typing I.measure I.choices
 judged_by I W c false = typed I W c
 
 -- "0, 17 and 18 keep new sorts in order of first making .. 17 and 18 leave outputs untouched"
 abbrev pub judged : Call → Lent → Option Candidate → SolveLeft
-judged I W none = left_with I (NoTyping (counts_in W)) W.sorts I.typing I.measure I.choices
+judged I W none = left_with I (Ok (NoTyping (counts_in W))) W.sorts I.typing I.measure I.choices
 judged I W (some c) = judged_by I W c c.duplicate
+
+-- the refusal of a search whose room ended, by its number
+unfoldable pub room_refusal : ℕ → Refusal
+room_refusal c = cond (eqb c 15) SortsFull NodesFull
 
 -- "15 and 16 give back sorts and nodes: rows past the entry lengths are zero, bindings as at entry, outputs untouched."
 abbrev pub verdict : {Met : Type 0} → Call → Out Met → SolveLeft
 verdict I (found w) = judged I w.lent w.best
 verdict I (missed w) = judged I w.lent w.best
 verdict I (ended c W) =
-    left_with I (NoRoom c) (given_back I.lengths.sorts I.lengths.entries I.sorts) I.typing
+    left_with I (Err (room_refusal c)) (given_back I.lengths.sorts I.lengths.entries I.sorts) I.typing
     I.measure I.choices
 
 abbrev pub nothing_met : Path → Lent → Unit {0} → Unit {0}
@@ -145,11 +155,10 @@ solve_entry I =
 
 -- document 01's number of each answer
 unfoldable pub code_solved : Solved → ℕ
-code_solved (Refused c) = code_of c
-code_solved (NoRoom c) = c
-code_solved (NoTyping k) = 17
-code_solved (Ambiguous k) = 18
-code_solved (Typing o) = 0
+code_solved (Err r) = code_of r
+code_solved (Ok (NoTyping k)) = 17
+code_solved (Ok (Ambiguous k)) = 18
+code_solved (Ok (Typing o)) = 0
 
 -- What a caller reads of a typing: the sorts and names of the expressions, the measure, and the choices.
 abbrev pub sorts_out : Call → SolveLeft → List ℕ
@@ -166,4 +175,4 @@ choices_out L o = rows_from (choice_at L.choices) 0 o.choices
 
 -- a typing, or no room for a sort
 abbrev pub TypingOr15 : Solved → Type 0
-TypingOr15 r = ((o : Outputs) × (r ≡ Typing o)) ⊎ (r ≡ NoRoom 15)
+TypingOr15 r = ((o : Outputs) × (r ≡ Ok (Typing o))) ⊎ (r ≡ Err SortsFull)

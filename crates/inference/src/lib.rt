@@ -2,17 +2,20 @@
 // contracts and code speak of.
 #![tactic(auto)]
 
-use resolved_sort::{Counts, Refusal, Run, SortId};
+ghost use Rattle.std.specs.Prelude.{◌≡◌, Ok};
+ghost use Rattle.inference.specs.SolveEntry.{code_solved};
+
+use resolved_sort::{Counts, Run, SortId};
 use unification::InferSortId;
 
 // The number of an expression.
-#[derive(Clone, Copy, Drop)]
+#[derive(Clone, Copy, Debug, PartialEq, Eq)]
 pub struct ExprId(pub u16);
 
 // What a name resolved to: a variable in scope, an operation with its sort, or a built-in.
 // A variable is one of the equation's, a parameter or global of the process, or a binder. An operation is a declared
 // constructor or mapping. A built-in is polymorphic: its sort follows from the inferred sorts of its arguments.
-#[derive(Clone, Copy, Drop)]
+#[derive(Clone, Copy, Debug, PartialEq, Eq)]
 pub enum NameTarget {
     Variable,
     Op(SortId),
@@ -20,14 +23,14 @@ pub enum NameTarget {
 }
 
 // The kind of a number literal: `0` is natural, every other literal positive.
-#[derive(Clone, Copy, Drop)]
+#[derive(Clone, Copy, Debug, PartialEq, Eq)]
 pub enum LitKind {
     Positive,
     Natural,
 }
 
 // One overload of a name: what it resolves to, and the place of its sort.
-#[derive(Clone, Copy, Drop)]
+#[derive(Clone, Copy, Debug, PartialEq, Eq)]
 pub struct Overload {
     pub target: NameTarget,
     pub sort: InferSortId,
@@ -46,7 +49,7 @@ pub struct Overload {
 // variable, since one at a time they depend on their order: the first source binds the variable by equality, so that a
 // set literal's FSet fixes it before a source is typed that admits only Set. The Join finds the common supersort in one
 // step.
-#[derive(Clone, Copy, Drop)]
+#[derive(Clone, Copy, Debug, PartialEq, Eq)]
 pub enum Constraint {
     Sub {
         lhs: InferSortId,
@@ -73,7 +76,7 @@ pub enum Constraint {
 }
 
 // How many rows the lists beside sorts, nodes and bindings have. Base names have no ceiling.
-#[derive(Clone, Copy, Drop)]
+#[derive(Clone, Copy, Debug, PartialEq, Eq)]
 pub struct Rows {
     pub exprs: u16,
     pub names: usize,
@@ -83,21 +86,33 @@ pub struct Rows {
 }
 
 // How many sorts and argument entries there are after a call, and how many components and choices it handed out.
-#[derive(Clone, Copy, Drop)]
+#[derive(Clone, Copy, Debug, PartialEq, Eq)]
 pub struct Outputs {
     pub counts: Counts,
     pub components: u16,
     pub choices: u16,
 }
 
-// What the solver answers. A refusal is the first failing check; no room is 15 or 16.
-#[derive(Clone, Copy, Drop)]
-pub enum Solved {
-    Refused(Refusal),
-    NoRoom(u16),
+// What a search that had room comes to: a typing; no leaf; or a least measure that was met more than once.
+#[derive(Clone, Copy, Debug, PartialEq, Eq)]
+pub enum Verdict {
+    Typing(Outputs),
     NoTyping(Counts),
     Ambiguous(Counts),
-    Typing(Outputs),
+}
+
+impl Verdict {
+    // Its number in document 01.
+    #[tactic(auto, unfolding(crate::specs::SolveEntry::code_solved))]
+    pub fn code(self) -> u16
+        ensures { result ≡ code_solved (Ok self) }
+    {
+        match self {
+            Verdict::Typing(_) => 0,
+            Verdict::NoTyping(_) => 17,
+            Verdict::Ambiguous(_) => 18,
+        }
+    }
 }
 
 // Ceilings of document 01, and the words of scratch.

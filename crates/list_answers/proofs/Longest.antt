@@ -18,11 +18,10 @@ use Rattle.resolved_sort.specs.Entries.{refused_or}
 use Rattle.inference.specs.declared.Constraint.{Constraint}
 use Rattle.inference.specs.declared.Constraint.TheVariants.{Sub, Lit, Disjunction, Comprehension, Join}
 use Rattle.inference.specs.declared.Outputs.{Outputs}
-use Rattle.inference.specs.declared.Solved.{Solved}
-use Rattle.inference.specs.declared.Solved.TheVariants.{Refused, NoRoom, NoTyping, Ambiguous, Typing}
+use Rattle.inference.specs.declared.Verdict.TheVariants.{NoTyping, Ambiguous, Typing}
 use Rattle.inference.specs.Constraints.{constraint_at, max_exprs, max_constraints, max_components}
 use Rattle.inference.specs.SolveChecks.{Call, given, disjunctions, disjunction_for, components, joins_fine, solve_checks}
-use Rattle.inference.specs.SolveEntry.{SolveLeft, solve_entry, code_solved, problem_of, refused, verdict, searched, nothing_met, typed, counts_in}
+use Rattle.inference.specs.SolveEntry.{Solved, SolveLeft, solve_entry, code_solved, problem_of, refused, verdict, searched, nothing_met, typed, counts_in}
 use Rattle.inference.specs.ListsLeft.{counts_told}
 use Rattle.inference.specs.Named.{expr_of}
 use Rattle.resolved_sort.proofs.Reached.{no_confusion}
@@ -53,13 +52,13 @@ few_disjunctions [] = omega arith
 few_disjunctions (c ∷ cs) = omega (arith, one_more c (disjunctions cs), few_disjunctions cs)
 
 -- a call that gets a typing has passed all checks
-module _ (I : Call) (o : Outputs) (e : (solve_entry I).answer ≡ Typing o) where
+module _ (I : Call) (o : Outputs) (e : (solve_entry I).answer ≡ Ok (Typing o)) where
   none_failed : first_failing (solve_checks I) ≡ Ok tt
   unfolding solve_entry
   none_failed = go (first_failing (solve_checks I)) refl e
     where
       go : (x : Tested) → first_failing (solve_checks I) ≡ x
-          → (refused_or x (refused I) (verdict I (searched (Unit {0}) nothing_met tt I))).answer ≡ Typing o → first_failing (solve_checks I) ≡ Ok tt
+          → (refused_or x (refused I) (verdict I (searched (Unit {0}) nothing_met tt I))).answer ≡ Ok (Typing o) → first_failing (solve_checks I) ≡ Ok tt
       go (Ok u) q f = q
       go (Err c) q f = no_confusion cc
 
@@ -72,7 +71,7 @@ module _ (I : Call) (o : Outputs) (e : (solve_entry I).answer ≡ Typing o) wher
 
   outputs_are : (o.components ≡ length is_typing.candidate.measure) × (o.choices ≡ length is_typing.candidate.choices)
   outputs_are =
-      let q : Typing o ≡ (typed I is_typing.lent is_typing.candidate).answer = sym e ∙ ap (λ (L : SolveLeft). L.answer) is_typing.is in
+      let q : Ok (Typing o) ≡ (typed I is_typing.lent is_typing.candidate).answer = sym e ∙ ap (λ (L : SolveLeft). L.answer) is_typing.is in
       let r : o ≡ record { counts = counts_in is_typing.lent; components = length is_typing.candidate.measure; choices = length is_typing.candidate.choices } = cc q in
       (ap (λ (x : Outputs). x.components) r, ap (λ (x : Outputs). x.choices) r)
 
@@ -95,7 +94,7 @@ module _ (I : Call) (o : Outputs) (e : (solve_entry I).answer ≡ Typing o) wher
       )
 
 -- the text, by the answer
-module _ (I : Call) (g x : ℕ) (f : (o : Outputs) → (solve_entry I).answer ≡ Typing o → x ≤ max_exprs) where
+module _ (I : Call) (g x : ℕ) (f : (o : Outputs) → (solve_entry I).answer ≡ Ok (Typing o) → x ≤ max_exprs) where
   sorts_told : (k : Counts) → counts_told (solve_entry I).answer ≡ some k → length (new_lines (solve_entry I).sorts g k.sorts) ≤ max_sorts * most_new_line
   sorts_told k e = (new_lines_length (solve_entry I).sorts g k.sorts k.entries (sorts_only_grow I k e).checked).is
 
@@ -103,11 +102,10 @@ module _ (I : Call) (g x : ℕ) (f : (o : Outputs) → (solve_entry I).answer �
       → length (lines_under g x r (solve_entry I).sorts (solve_entry I).typing (solve_entry I).measure (solve_entry I).choices)
       ≤ most_typing max_exprs max_components max_constraints + max_sorts * most_new_line
   unfolding lines_under
-  under_length (Refused c) e = omega arith
-  under_length (NoRoom c) e = omega arith
-  under_length (NoTyping k) e = omega (arith, sorts_told k (ap counts_told e))
-  under_length (Ambiguous k) e = omega (arith, sorts_told k (ap counts_told e))
-  under_length (Typing o) e =
+  under_length (Err r) e = omega arith
+  under_length (Ok (NoTyping k)) e = omega (arith, sorts_told k (ap counts_told e))
+  under_length (Ok (Ambiguous k)) e = omega (arith, sorts_told k (ap counts_told e))
+  under_length (Ok (Typing o)) e =
       omega (
         arith,
         length-append

@@ -5,10 +5,11 @@ use Prim.Native.Nat.{ℕ}
 use Rattle.resolved_sort.specs.declared.Counts.{Counts}
 use Rattle.resolved_sort.specs.Rows.{Checked}
 use Rattle.inference.specs.declared.Outputs.{Outputs}
-use Rattle.inference.specs.declared.Solved.{Solved}
-use Rattle.inference.specs.declared.Solved.TheVariants.{Refused, NoRoom, NoTyping, Ambiguous, Typing}
+use Rattle.std.specs.Prelude.{Ok, Err}
+use Rattle.inference.specs.declared.Verdict.{Verdict}
+use Rattle.inference.specs.declared.Verdict.TheVariants.{NoTyping, Ambiguous, Typing}
 use Rattle.inference.specs.SolveChecks.{Call}
-use Rattle.inference.specs.SolveEntry.{solve_entry, code_solved}
+use Rattle.inference.specs.SolveEntry.{Solved, solve_entry, code_solved}
 use Rattle.inference.specs.ListsLeft.{counts_told}
 use Rattle.inference.proofs.ListsLeft.{sorts_only_grow}
 use Rattle.text_out.specs.declared.Out.{Out}
@@ -19,19 +20,21 @@ use Rattle.list_solve.specs.Inner.Asked.{ListAnswer, list_answer, list_answer_of
 use Rattle.list_answers.specs.Answer.{lines_under, told_text, answer_text}
 use Rattle.list_answers.specs.Inner.Answer.{Tellable, told_of}
 
-pub checked_to_tell : (r : Solved) (ss : List ℕ) → Tellable r ss → (o : Outputs) → r ≡ Typing o → Checked ss o.counts.sorts o.counts.entries
+pub checked_to_tell : (r : Solved) (ss : List ℕ) → Tellable r ss → (o : Outputs) → r ≡ Ok (Typing o) → Checked ss o.counts.sorts o.counts.entries
 checked_to_tell r ss t o e = subst (λ (a : Solved). Tellable a ss) e t
+
+pub verdict_tellable : (r : Solved) (ss : List ℕ) → Tellable r ss → (v : Verdict) → r ≡ Ok v → Tellable (Ok v) ss
+verdict_tellable r ss t v e = subst (λ (a : Solved). Tellable a ss) e t
 
 -- What a call leaves can be told: after a typing the sorts are checked.
 pub left_tellable : (I : Call) → Tellable (solve_entry I).answer (solve_entry I).sorts
 left_tellable I = go (solve_entry I).answer refl
   where
     go : (r : Solved) → (solve_entry I).answer ≡ r → Tellable r (solve_entry I).sorts
-    go (Refused c) e = tt
-    go (NoRoom c) e = tt
-    go (NoTyping k) e = tt
-    go (Ambiguous k) e = tt
-    go (Typing o) e = (sorts_only_grow I o.counts (ap counts_told e)).checked
+    go (Err r) e = tt
+    go (Ok (NoTyping k)) e = tt
+    go (Ok (Ambiguous k)) e = tt
+    go (Ok (Typing o)) e = (sorts_only_grow I o.counts (ap counts_told e)).checked
 
 -- What is left after asking and telling.
 module _ (I : Call) (r : Solved) (ss ts ms cs : List ℕ) (e : list_answer r ss ts ms cs ≡ list_answer_of (solve_entry I)) where

@@ -6,25 +6,28 @@ ghost use Rattle.std.specs.Prelude.{◌≡◌, ◌+◌, ◌*◌, ◌≤◌, leng
 ghost use Rattle.inference.specs.SolveEntry.{solve_entry};
 ghost use Rattle.list_memory.specs.Memory.{rows_at, most_rows, rows_given};
 ghost use Rattle.list_memory.specs.Layouts.{table_number, slice_number, layout_of};
-ghost use Rattle.solve_outputs.specs.Finish.{solve_left};
+ghost use Rattle.solve_outputs.specs.Handout.{solve_left_with, SameHandout};
+ghost use Rattle.words.specs.Words.{part};
 ghost use Rattle.list_call.specs.Lists.{call_count, told_or, length_lent, slice_lent, given_in, call_by};
 
-use inference::Solved;
+use inference::Verdict;
 use list_memory::{
     COUNTS_AT, COUNTS_TOLD_AT, DEFAULT_AT, LENT_AT, LENT_TOLD_AT, ROWS_AT, Slice, Table,
 };
-use resolved_sort::SortId;
+use resolved_sort::{Refusal, SortId};
 use solve_checks::Given;
 use solve_entries::solve;
+use solve_outputs::Handout;
 use words::word;
 
-// The slices that an answer of the solver is told from, which a call changes.
-#[derive(Drop)]
-pub struct Told<'a> {
-    pub sorts: &'a mut [u16],
-    pub typing: &'a mut [u16],
-    pub measure: &'a mut [u16],
-    pub choices: &'a mut [u16],
+// A copy of a slice of the list, as long as its ceiling.
+pub fn copied<const N: usize>(list: &[u16], at: usize) -> [u16; N]
+    requires { at + N ≤ length list.now }
+    ensures { result ≡ part at N list.now }
+{
+    let mut words = [0; N];
+    words.copy_from_slice(&list[at..at + N]);
+    words
 }
 
 // The rows given of a table.
@@ -108,17 +111,17 @@ fn lend(list: &[u16], slice: Slice, table: Table) -> &[u16]
 pub fn solve_list(
     list: &[u16],
     given: Given,
+    sorts: &mut [u16],
     nodes: &mut [u16],
     binds: &mut [u16],
     scratch: &mut [u16],
-    told: &mut Told<'_>,
-) -> Solved
+    handout: &mut Handout<'_>,
+) -> Result<Verdict, Refusal>
     requires { rows_at ≤ length list.now }
-    ensures { solve_left result told.new.sorts.now nodes.new binds.new scratch.new
-        told.new.typing.now told.new.measure.now told.new.choices.now
-        ≡ solve_entry
-        (call_by list.now given told.old.sorts.now nodes.old binds.old scratch.old
-        told.old.typing.now told.old.measure.now told.old.choices.now) }
+    ensures says { solve_left_with result sorts.new nodes.new binds.new scratch.new handout.new
+        ≡ solve_entry (call_by list.now given sorts.old nodes.old binds.old scratch.old handout.old.typing.now
+        handout.old.measure.now handout.old.choices.now) }
+    ensures same_reference { SameHandout handout.old handout.new }
 {
     let exprs = lend(list, Slice::Exprs, Table::Exprs);
     let names = lend(list, Slice::Names, Table::Names);
@@ -126,7 +129,7 @@ pub fn solve_list(
     let overloads = lend(list, Slice::Overloads, Table::Overloads);
     let sources = lend(list, Slice::Sources, Table::Sources);
     solve(
-        told.sorts,
+        sorts,
         nodes,
         binds,
         exprs,
@@ -136,8 +139,6 @@ pub fn solve_list(
         sources,
         given,
         scratch,
-        told.typing,
-        told.measure,
-        told.choices,
+        handout,
     )
 }

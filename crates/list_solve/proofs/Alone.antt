@@ -2,8 +2,7 @@
 use mathlib.Core.Path.{◌≡◌, ◌∙◌, ap}
 use mathlib.Core.List.{List}
 use Prim.Native.Nat.{ℕ}
-use Rattle.inference.specs.declared.Solved.{Solved}
-use Rattle.inference.specs.SolveEntry.{solve_entry}
+use Rattle.inference.specs.SolveEntry.{Solved, solve_entry}
 use Rattle.solve_checks.specs.declared.Given.{Given}
 use Rattle.solve_outputs.specs.Finish.{solve_left}
 use Rattle.list_call.specs.Lists.{given_in, nodes_in, binds_in, scratch_in, call_by, call_on}

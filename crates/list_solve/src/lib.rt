@@ -6,43 +6,39 @@ ghost use Rattle.std.specs.Prelude.{◌≡◌, ◌≤◌, length};
 ghost use Rattle.inference.specs.SolveEntry.{solve_entry};
 ghost use Rattle.list_memory.specs.Memory.{rows_at};
 ghost use Rattle.list_call.specs.Lists.{call_on};
+ghost use Rattle.solve_outputs.specs.Handout.{SameHandout};
 ghost use Rattle.list_solve.specs.Inner.Asked.{list_answer, list_answer_of};
 
-use inference::{SCRATCH_WORDS, Solved};
-use list_call::{Told, given_of, length_of, rows_given, solve_list};
+use inference::{SCRATCH_WORDS, Verdict};
+use list_call::{copied, given_of, length_of, rows_given, solve_list};
 use list_memory::{LIST_BINDS_AT, LIST_NODES_AT, LIST_SCRATCH_AT, Slice, Table};
+use resolved_sort::Refusal;
+use solve_outputs::Handout;
 use unification::{MAX_VARS, NODE_WORDS};
-use words::copy;
 
 // The solver asked about a list, with nodes, bindings and scratch of its own.
-pub fn ask(list: &[u16], told: &mut Told<'_>) -> Solved
+pub fn ask(list: &[u16], sorts: &mut [u16], handout: &mut Handout<'_>) -> Result<Verdict, Refusal>
     requires { rows_at ≤ length list.now }
-    ensures { list_answer result told.new.sorts.now told.new.typing.now told.new.measure.now told.new.choices.now
+    ensures says { list_answer result sorts.new handout.new.typing.now handout.new.measure.now handout.new.choices.now
         ≡ list_answer_of
         (solve_entry
-        (call_on list.now told.old.sorts.now told.old.typing.now told.old.measure.now
-        told.old.choices.now)) }
+        (call_on list.now sorts.old handout.old.typing.now handout.old.measure.now handout.old.choices.now)) }
+    ensures same_reference { SameHandout handout.old handout.new }
 {
-    let mut nodes = [0u16; NODE_WORDS];
-    let mut binds = [0u16; MAX_VARS];
-    let mut scratch = [0u16; SCRATCH_WORDS];
-    copy(&mut nodes, 0, list, LIST_NODES_AT, NODE_WORDS);
-    copy(&mut binds, 0, list, LIST_BINDS_AT, MAX_VARS);
-    copy(&mut scratch, 0, list, LIST_SCRATCH_AT, SCRATCH_WORDS);
+    let mut nodes: [u16; NODE_WORDS] = copied(list, LIST_NODES_AT);
+    let mut binds: [u16; MAX_VARS] = copied(list, LIST_BINDS_AT);
+    let mut scratch: [u16; SCRATCH_WORDS] = copied(list, LIST_SCRATCH_AT);
     let nodes_end = length_of(list, Slice::Nodes, NODE_WORDS, NODE_WORDS);
-    let binds_end = length_of(
-        list,
-        Slice::Bindings,
-        rows_given(list, Table::Vars),
-        MAX_VARS,
-    );
+    let rows = rows_given(list, Table::Vars);
+    let binds_end = length_of(list, Slice::Bindings, rows, MAX_VARS);
     let scratch_end = length_of(list, Slice::Scratch, SCRATCH_WORDS, SCRATCH_WORDS);
     solve_list(
         list,
         given_of(list),
+        sorts,
         &mut nodes[..nodes_end],
         &mut binds[..binds_end],
         &mut scratch[..scratch_end],
-        told,
+        handout,
     )
 }

@@ -1,4 +1,4 @@
--- What a code says, a sort by its number, and the text of a sort by its size. Assumes nothing.
+-- A sort by its number, and the text of a sort by its size. Assumes nothing.
 use mathlib.Core.Path.{◌≡◌, refl, sym, ◌∙◌, ap}
 use mathlib.Core.Bool.{Bool, true, false, ◌&&◌, and-eq-true_iff}
 use mathlib.Core.List.{List, [], ◌∷◌, ◌++◌}
@@ -23,19 +23,10 @@ use Rattle.sort_writer.specs.Inner.Puts.{SortRoom}
 use Rattle.text_out.specs.Put.{Put}
 use Rattle.sort_writer.proofs.Sizes.{capped_short, capped_long, text_some}
 use Rattle.sort_writer.proofs.Fills.{sizes_right}
-use Rattle.list_verdict.specs.Words.{verdict_messages, message}
 use Rattle.list_verdict.specs.Text.{name, sort_name, short, sort_text}
 use Rattle.list_verdict.specs.Inner.Room.{SizesOf}
 
--- codes and names of sorts
-pub no_message : (code : ℕ) → 13 ≤ code → (code ≡ 14 → ⊥) → (code ≡ 15 → ⊥) → (code ≡ 16 → ⊥) → (code ≡ 17 → ⊥) → (code ≡ 18 → ⊥) → [] ≡ message code
-unfolding message
-no_message code h a b c d e = go (dec_le 19 code)
-  where
-    go : Dec (19 ≤ code) → [] ≡ message code
-    go (yes l) = sym (get_or-eq_default verdict_messages [] l)
-    go (no l) = let z : code ≡ 13 = omega arith in rw z
-
+-- names of sorts
 pub plain_name : (s : ℕ) → 6 ≤ s → name 115 s ≡ sort_name s
 unfolding sort_name
 plain_name s h = rw (le-ltb s 6 h)
@@ -104,10 +95,6 @@ module _ (ws : List ℕ) (k : Counts) (zs : List ℕ) (s : ℕ) (q : SizesOf ws 
     not_short h =
         le-ltb 0 size h
         ∙ sym (size_none (writable (tree_at ws k.sorts s)) _ (text_some (tree_at ws k.sorts s)) (omega (arith, size_is size e, h)))
-
-  pub numbered : short (tree_at ws k.sorts s) ≡ false → name 115 s ≡ sort_text ws k.sorts s
-  unfolding sort_text
-  numbered e = rw e
 
   module _ (e : short (tree_at ws k.sorts s) ≡ true) where
     fits : length (text (tree_at ws k.sorts s)) ≤ 200

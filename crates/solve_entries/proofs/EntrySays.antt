@@ -5,24 +5,25 @@ use mathlib.Core.Path.{◌≡◌, refl, sym, ap, subst, ◌∙◌}
 use mathlib.Core.Bool.{Bool, true, false}
 use mathlib.Core.List.{List}
 use mathlib.Core.Option.{Option, none, some}
-use mathlib.Core.Logic.{inl, inr}
+use mathlib.Core.Logic.{◌⊎◌, inl, inr}
 use Prim.Native.Nat.{ℕ}
 use native.Mathlib.Omega.{arith}
 use lib.ListN.{length, take, drop}
 use lib.Seq.{take-append_seam}
 use Rattle.std.specs.Prelude.{Ok, Err}
 use Rattle.resolved_sort.specs.declared.Counts.{Counts}
+use Rattle.resolved_sort.specs.declared.Refusal.{Refusal}
+use Rattle.resolved_sort.specs.declared.Refusal.TheVariants.{SortsFull, NodesFull}
 use Rattle.resolved_sort.specs.Storage.{given_back}
 use Rattle.resolved_sort.specs.Checks.{first_failing, Tested}
 use Rattle.resolved_sort.proofs.Reached.{no_confusion}
 use Rattle.unification.specs.Making.{Lent}
 use Rattle.inference.specs.declared.Outputs.{Outputs}
-use Rattle.inference.specs.declared.Solved.{Solved}
-use Rattle.inference.specs.declared.Solved.TheVariants.{Refused, NoRoom, NoTyping, Ambiguous, Typing}
+use Rattle.inference.specs.declared.Verdict.TheVariants.{NoTyping, Ambiguous, Typing}
 use Rattle.inference.specs.Measure.{Components}
 use Rattle.inference.specs.Search.{Candidate, Out, found, missed, ended}
 use Rattle.inference.specs.SolveChecks.{Call, solve_checks}
-use Rattle.inference.specs.SolveEntry.{SolveLeft, searched, refused, judged, judged_by, verdict, nothing_met, solve_entry, code_solved, measure_out, TypingOr15}
+use Rattle.inference.specs.SolveEntry.{Solved, SolveLeft, searched, refused, judged, judged_by, verdict, nothing_met, solve_entry, code_solved, measure_out, TypingOr15}
 use Rattle.inference.specs.Leaves.{times, Least, leaves_met, HandsOut, ByLeaves}
 use Rattle.inference.specs.ListsLeft.{counts_told}
 use Rattle.inference.proofs.Accepted.{passed_is_searched}
@@ -35,18 +36,17 @@ use Rattle.solve_checks.specs.declared.Given.{Given}
 use Rattle.solve_checks.specs.Call.{call_of}
 use Rattle.solve_outputs.specs.Finish.{solve_left}
 use Rattle.solve_outputs.specs.Packed.{PackedSolve, packed_solve, pack_solve_left}
-use Rattle.solve_outputs.proofs.Codes.{Searched, searched_answers, entry_told, code_is_low_byte, packed_tells}
+use Rattle.solve_outputs.proofs.Codes.{Searched, searched_answers, refused_by_number, entry_told, code_is_low_byte, packed_tells}
 use Rattle.solve_entries.specs.Given.{given_of}
 use Rattle.solve_entries.specs.Says.{Cleared, OutputsAsGiven, Constrained, SaysSearched, SaysBy, EntrySays, PackedSays}
 
 -- What a search leaves of the memory beside sorts and a typing.
 module _ (I : Call) where
   abbrev Kept : SolveLeft → Solved → Type 0
-  Kept L (Refused c) = Unit {0}
-  Kept L (NoRoom c) = (L.sorts ≡ given_back I.lengths.sorts I.lengths.entries I.sorts) × OutputsAsGiven I L
-  Kept L (NoTyping k) = OutputsAsGiven I L
-  Kept L (Ambiguous k) = OutputsAsGiven I L
-  Kept L (Typing o) = Unit {0}
+  Kept L (Err r) = (L.sorts ≡ given_back I.lengths.sorts I.lengths.entries I.sorts) × OutputsAsGiven I L
+  Kept L (Ok (NoTyping k)) = OutputsAsGiven I L
+  Kept L (Ok (Ambiguous k)) = OutputsAsGiven I L
+  Kept L (Ok (Typing o)) = Unit {0}
 
   abbrev Leaves : SolveLeft → Type 0
   Leaves L = Cleared I L × Kept L L.answer
@@ -73,7 +73,7 @@ module _ (I : Call) where
     left = subst Leaves (sym (passed_is_searched I f)) (verdict_leaves (searched (Unit {0}) nothing_met tt I))
 
     -- an answer that is neither a typing nor 15 has constraints
-    constrained : (r : Solved) → L.answer ≡ r → ((o : Outputs) → r ≡ Typing o → ⊥) → (r ≡ NoRoom 15 → ⊥) → Constrained I L
+    constrained : (r : Solved) → L.answer ≡ r → ((o : Outputs) → r ≡ Ok (Typing o) → ⊥) → (r ≡ Err SortsFull → ⊥) → Constrained I L
     constrained r e t n z = go (no_constraints_is_a_typing I f z)
       where
         go : TypingOr15 L.answer → ⊥
@@ -93,7 +93,7 @@ module _ (I : Call) where
           }
 
     -- the measure handed out is the least
-    module _ (o : Outputs) (e : L.answer ≡ Typing o) (B : ByLeaves I L (leaves_met I)) where
+    module _ (o : Outputs) (e : L.answer ≡ Ok (Typing o)) (B : ByLeaves I L (leaves_met I)) where
       handed_out : (m : Components) → HandsOut I L m → m ≡ measure_out L o
       handed_out m h =
           let q : h.outputs ≡ o = cc (h.answer, e) in
@@ -111,35 +111,30 @@ module _ (I : Call) where
 
     by_answer : (r : Solved) → L.answer ≡ r → Searched I r → Kept L r → SaysBy I L r
     unfolding code_solved
-    by_answer (Refused c) e s k = absurd s
-    by_answer (NoRoom c) e (inl i) k =
-        record { passed = f; room = inl i; sorts = k.0; memory = left.0; outputs = k.1 }
-    by_answer (NoRoom c) e (inr i) k =
-        record {
-          passed = f;
-          room = inr (i, constrained (NoRoom c) e (λ o x. no_confusion cc) (λ x. let y : c ≡ 15 = cc in omega (arith, i, y)));
-          sorts = k.0;
-          memory = left.0;
-          outputs = k.1;
-        }
-    by_answer (NoTyping n) e s k =
-        let h = had_room (NoTyping n) e n refl 17 refl (λ x. omega (arith, x)) (λ x. omega (arith, x)) in
+    by_answer (Err r) e s k = inr (record { passed = f; room = room s; sorts = k.0; memory = left.0; outputs = k.1 })
+      where
+        room : (r ≡ SortsFull) ⊎ (r ≡ NodesFull) → (r ≡ SortsFull) ⊎ ((r ≡ NodesFull) × Constrained I L)
+        room (inl i) = inl i
+        room (inr i) =
+            inr (i, constrained (Err r) e (λ o x. no_confusion cc) (λ x. let y : NodesFull ≡ SortsFull = cc (x, i) in no_confusion cc))
+    by_answer (Ok (NoTyping n)) e s k =
+        let h = had_room (Ok (NoTyping n)) e n refl 17 refl (λ x. omega (arith, x)) (λ x. omega (arith, x)) in
         record {
           searched = h;
           no_leaf = h.by_leaves.none_met.0 (ap code_solved e);
-          constrained = constrained (NoTyping n) e (λ o x. no_confusion cc) (λ x. no_confusion cc);
+          constrained = constrained (Ok (NoTyping n)) e (λ o x. no_confusion cc) (λ x. no_confusion cc);
           outputs = k;
         }
-    by_answer (Ambiguous n) e s k =
-        let h = had_room (Ambiguous n) e n refl 18 refl (λ x. omega (arith, x)) (λ x. omega (arith, x)) in
+    by_answer (Ok (Ambiguous n)) e s k =
+        let h = had_room (Ok (Ambiguous n)) e n refl 18 refl (λ x. omega (arith, x)) (λ x. omega (arith, x)) in
         record {
           searched = h;
           tied = h.by_leaves.least_met_often.0 (ap code_solved e);
-          constrained = constrained (Ambiguous n) e (λ o x. no_confusion cc) (λ x. no_confusion cc);
+          constrained = constrained (Ok (Ambiguous n)) e (λ o x. no_confusion cc) (λ x. no_confusion cc);
           outputs = k;
         }
-    by_answer (Typing o) e s k =
-        let h = had_room (Typing o) e o.counts refl 0 refl (λ x. omega (arith, x)) (λ x. omega (arith, x)) in
+    by_answer (Ok (Typing o)) e s k =
+        let h = had_room (Ok (Typing o)) e o.counts refl 0 refl (λ x. omega (arith, x)) (λ x. omega (arith, x)) in
         let m = least_out o e h.by_leaves in
         record {
           searched = h;
@@ -159,7 +154,7 @@ module _ (I : Call) where
       go (Ok u) f = by_answer f L.answer refl (searched_answers I f) (left f).1
       go (Err c) f =
           let e : L ≡ refused I c = rw f in
-          subst (λ (M : SolveLeft). EntrySays I M) (sym e) (record { first = f; given = refl })
+          subst (λ (M : SolveLeft). EntrySays I M) (sym e) (inl (record { first = f; given = refl }, refused_by_number I c f))
 
   -- packed
   pub packed_says : (q : PackedSolve) → q ≡ pack_solve_left L → PackedSays I q

@@ -9,21 +9,21 @@ use Prim.Native.Nat.{ℕ, ◌%◌, ◌<◌}
 use native.Mathlib.Omega.{arith}
 use lib.ListN.{length, replicate}
 use Rattle.resolved_sort.specs.declared.Refusal.{Refusal}
+use Rattle.resolved_sort.specs.declared.Refusal.TheVariants.{SortsFull, NodesFull}
 use Rattle.std.specs.Prelude.{Ok, Err}
 use Rattle.resolved_sort.specs.declared.Counts.{Counts}
 use Rattle.resolved_sort.specs.Storage.{given_back}
-use Rattle.resolved_sort.specs.Checks.{first_failing, code_of as code_of_refusal}
+use Rattle.resolved_sort.specs.Checks.{first_failing, Numbered, code_of as code_of_refusal}
 use Rattle.resolved_sort.specs.Entries.{tree_at}
 use Rattle.resolved_sort.proofs.Reached.{no_confusion}
 use Rattle.unification.specs.Nodes.{binds_of}
 use Rattle.unification.specs.Making.{graph}
 use Rattle.inference.specs.declared.Outputs.{Outputs}
-use Rattle.inference.specs.declared.Solved.{Solved}
-use Rattle.inference.specs.declared.Solved.TheVariants.{Refused, NoRoom, NoTyping, Ambiguous, Typing}
+use Rattle.inference.specs.declared.Verdict.TheVariants.{NoTyping, Ambiguous, Typing}
 use Rattle.inference.specs.Measure.{Components}
 use Rattle.inference.specs.Search.{sort_in}
 use Rattle.inference.specs.SolveChecks.{Call, solve_checks}
-use Rattle.inference.specs.SolveEntry.{SolveLeft, problem_of, lent_of, nodes_given_back, code_solved, sorts_out, measure_out, choices_out, TypingOr15}
+use Rattle.inference.specs.SolveEntry.{Solved, SolveLeft, problem_of, lent_of, nodes_given_back, code_solved, sorts_out, measure_out, choices_out, TypingOr15}
 use Rattle.inference.specs.Typing.{In, HoldsTogether}
 use Rattle.inference.specs.Explained.{Explained}
 use Rattle.inference.specs.Named.{Named}
@@ -34,94 +34,122 @@ use Rattle.inference.proofs.LeavesMet.{least_is_one}
 use Rattle.solve_outputs.specs.Packed.{pack_solved, SolvedWithin, PackedSolve}
 use Rattle.solve_entries.specs.Says.{SaysTyping, SaysBy, EntrySays, left_of, PackedSays}
 
+-- a refusal because room ended, 15 or 16
+abbrev pub RoomEnded : Refusal → Type 0
+RoomEnded r = (r ≡ SortsFull) ⊎ (r ≡ NodesFull)
+
+no_check_is_of_room : (r : Refusal) → Numbered r → RoomEnded r → ⊥
+unfolding code_of_refusal
+no_check_is_of_room r n (inl i) = let q : code_of_refusal r ≡ 15 = ap code_of_refusal i in omega (arith, n.1, q)
+no_check_is_of_room r n (inr i) = let q : code_of_refusal r ≡ 16 = ap code_of_refusal i in omega (arith, n.1, q)
+
 module _ (I : Call) (L : SolveLeft) (s : EntrySays I L) where
   -- what it says by an answer that is known
   says_by : (r : Solved) → L.answer ≡ r → SaysBy I L r
   says_by r q = subst (SaysBy I L) q s
 
   -- Demand 3: where it answers a typing, there is one assignment under which the whole list holds together, with the sorts and choices that stand in the words left.
-  pub entry_holds_together : (o : Outputs) → L.answer ≡ Typing o
+  pub entry_holds_together : (o : Outputs) → L.answer ≡ Ok (Typing o)
       → HoldsTogether (graph (lent_of I)) (sort_in (lent_of I)) (tree_at L.sorts o.counts.sorts) o.counts.sorts
       (binds_of I.binds I.lengths.variables) (problem_of I) (sorts_out I L) (choices_out L o)
-  entry_holds_together o q = (says_by (Typing o) q).together
+  entry_holds_together o q = (says_by (Ok (Typing o)) q).together
 
   -- and each component and name is what document 01 says
-  pub entry_is_explained : (o : Outputs) → L.answer ≡ Typing o → Explained I L o × Named I L o (choices_out L o)
-  entry_is_explained o q = ((says_by (Typing o) q).explained, (says_by (Typing o) q).named)
+  pub entry_is_explained : (o : Outputs) → L.answer ≡ Ok (Typing o) → Explained I L o × Named I L o (choices_out L o)
+  entry_is_explained o q = ((says_by (Ok (Typing o)) q).explained, (says_by (Ok (Typing o)) q).named)
 
   -- Where no check refuses a list without constraints, it answers a typing, or 15.
   pub entry_without_constraints : first_failing (solve_checks I) ≡ Ok tt → I.rows.constraints ≡ 0 → TypingOr15 L.answer
   entry_without_constraints f z = go L.answer s
     where
       go : (r : Solved) → SaysBy I L r → TypingOr15 r
-      go (Refused c) x = let y = x.first in no_confusion (cc)
-      go (NoRoom c) x = room x.room
+      go (Err r) (inl x) = let y = x.0.first in no_confusion (cc)
+      go (Err r) (inr x) = room x.room
         where
-          room : (c ≡ 15) ⊎ ((c ≡ 16) × (I.rows.constraints ≡ 0 → ⊥)) → TypingOr15 (NoRoom c)
-          room (inl i) = inr (ap NoRoom i)
+          room : (r ≡ SortsFull) ⊎ ((r ≡ NodesFull) × (I.rows.constraints ≡ 0 → ⊥)) → TypingOr15 (Err r)
+          room (inl i) = inr (ap Err i)
           room (inr j) = absurd (j.1 z)
-      go (NoTyping k) x = absurd (x.constrained z)
-      go (Ambiguous k) x = absurd (x.constrained z)
-      go (Typing o) x = inl (o, refl)
+      go (Ok (NoTyping k)) x = absurd (x.constrained z)
+      go (Ok (Ambiguous k)) x = absurd (x.constrained z)
+      go (Ok (Typing o)) x = inl (o, refl)
 
   -- The verdict of a call that passes its checks and has room is by its leaves.
   pub entry_by_leaves : first_failing (solve_checks I) ≡ Ok tt → (code_of L ≡ 15 → ⊥) → (code_of L ≡ 16 → ⊥) → ByLeaves I L (leaves_met I)
-  unfolding code_solved
+  unfolding code_solved code_of_refusal
   entry_by_leaves f n m = go L.answer refl s
     where
       go : (r : Solved) → L.answer ≡ r → SaysBy I L r → ByLeaves I L (leaves_met I)
-      go (Refused c) e x = let y = x.first in no_confusion (cc)
-      go (NoRoom c) e x = room x.room
+      go (Err r) e (inl x) = let y = x.0.first in no_confusion (cc)
+      go (Err r) e (inr x) = room x.room
         where
-          room : (c ≡ 15) ⊎ ((c ≡ 16) × (I.rows.constraints ≡ 0 → ⊥)) → ByLeaves I L (leaves_met I)
-          room (inl i) = absurd (n (ap code_solved e ∙ i))
-          room (inr j) = absurd (m (ap code_solved e ∙ j.0))
-      go (NoTyping k) e x = x.searched.by_leaves
-      go (Ambiguous k) e x = x.searched.by_leaves
-      go (Typing o) e x = x.searched.by_leaves
+          room : (r ≡ SortsFull) ⊎ ((r ≡ NodesFull) × (I.rows.constraints ≡ 0 → ⊥)) → ByLeaves I L (leaves_met I)
+          room (inl i) = absurd (n (ap code_solved e ∙ ap code_of_refusal i))
+          room (inr j) = absurd (m (ap code_solved e ∙ ap code_of_refusal j.0))
+      go (Ok (NoTyping k)) e x = x.searched.by_leaves
+      go (Ok (Ambiguous k)) e x = x.searched.by_leaves
+      go (Ok (Typing o)) e x = x.searched.by_leaves
 
   -- the sorts after 0, 17 and 18, and after 15 and 16
   pub entry_sorts_grow : (k : Counts) → counts_told L.answer ≡ some k → SortsGrown I L.sorts k
   entry_sorts_grow k = go L.answer s
     where
       go : (r : Solved) → SaysBy I L r → counts_told r ≡ some k → SortsGrown I L.sorts k
-      go (Refused c) x e = no_confusion (cc)
-      go (NoRoom c) x e = no_confusion (cc)
-      go (NoTyping n) x e = let q : n ≡ k = cc in subst (SortsGrown I L.sorts) q x.searched.sorts
-      go (Ambiguous n) x e = let q : n ≡ k = cc in subst (SortsGrown I L.sorts) q x.searched.sorts
-      go (Typing o) x e = let q : o.counts ≡ k = cc in subst (SortsGrown I L.sorts) q x.searched.sorts
+      go (Err r) x e = no_confusion (cc)
+      go (Ok (NoTyping n)) x e = let q : n ≡ k = cc in subst (SortsGrown I L.sorts) q x.searched.sorts
+      go (Ok (Ambiguous n)) x e = let q : n ≡ k = cc in subst (SortsGrown I L.sorts) q x.searched.sorts
+      go (Ok (Typing o)) x e = let q : o.counts ≡ k = cc in subst (SortsGrown I L.sorts) q x.searched.sorts
 
-  pub no_room_gives_sorts_back : (c : ℕ) → L.answer ≡ NoRoom c → L.sorts ≡ given_back I.lengths.sorts I.lengths.entries I.sorts
-  no_room_gives_sorts_back c q = (says_by (NoRoom c) q).sorts
+  pub no_room_gives_sorts_back : (r : Refusal) → L.answer ≡ Err r → RoomEnded r → L.sorts ≡ given_back I.lengths.sorts I.lengths.entries I.sorts
+  no_room_gives_sorts_back r q e = go (says_by (Err r) q)
+    where
+      go : SaysBy I L (Err r) → L.sorts ≡ given_back I.lengths.sorts I.lengths.entries I.sorts
+      go (inl x) = absurd (no_check_is_of_room r x.1 e)
+      go (inr x) = x.sorts
 
-  -- a refusal changes nothing, and is the first failing check
-  pub refusal_changes_nothing : (c : Refusal) → L.answer ≡ Refused c
-      → (first_failing (solve_checks I) ≡ Err c) × (L.sorts ≡ I.sorts) × (L.nodes ≡ I.nodes) × (L.scratch ≡ I.scratch)
-  refusal_changes_nothing c q =
-      let x = says_by (Refused c) q in
-      (x.first, ap (λ (M : SolveLeft). M.sorts) x.given, ap (λ (M : SolveLeft). M.nodes) x.given, ap (λ (M : SolveLeft). M.scratch) x.given)
+  -- a refusal by a check changes nothing, and is the first failing check
+  pub refusal_changes_nothing : (r : Refusal) → L.answer ≡ Err r → Numbered r
+      → (first_failing (solve_checks I) ≡ Err r) × (L.sorts ≡ I.sorts) × (L.nodes ≡ I.nodes) × (L.scratch ≡ I.scratch)
+  refusal_changes_nothing r q n = go (says_by (Err r) q)
+    where
+      go : SaysBy I L (Err r)
+          → (first_failing (solve_checks I) ≡ Err r) × (L.sorts ≡ I.sorts) × (L.nodes ≡ I.nodes) × (L.scratch ≡ I.scratch)
+      go (inl (x, m)) = (
+        x.first,
+        ap (λ (M : SolveLeft). M.sorts) x.given,
+        ap (λ (M : SolveLeft). M.nodes) x.given,
+        ap (λ (M : SolveLeft). M.scratch) x.given,
+      )
+      go (inr x) = absurd (no_check_is_of_room r n (ended x.room))
+        where
+          ended : (r ≡ SortsFull) ⊎ ((r ≡ NodesFull) × (I.rows.constraints ≡ 0 → ⊥)) → RoomEnded r
+          ended (inl i) = inl i
+          ended (inr j) = inr j.0
 
   -- bindings are as given in any case, outputs unless there is a typing
   pub bindings_as_given : L.binds ≡ I.binds
   bindings_as_given = go L.answer s
     where
       go : (r : Solved) → SaysBy I L r → L.binds ≡ I.binds
-      go (Refused c) x = ap (λ (M : SolveLeft). M.binds) x.given
-      go (NoRoom c) x = x.memory.binds
-      go (NoTyping k) x = x.searched.memory.binds
-      go (Ambiguous k) x = x.searched.memory.binds
-      go (Typing o) x = x.searched.memory.binds
+      go (Err r) (inl x) = ap (λ (M : SolveLeft). M.binds) x.0.given
+      go (Err r) (inr x) = x.memory.binds
+      go (Ok (NoTyping k)) x = x.searched.memory.binds
+      go (Ok (Ambiguous k)) x = x.searched.memory.binds
+      go (Ok (Typing o)) x = x.searched.memory.binds
 
   pub outputs_under_0_only : (code_of L ≡ 0 → ⊥) → (L.typing ≡ I.typing) × (L.measure ≡ I.measure) × (L.choices ≡ I.choices)
   unfolding code_solved
   outputs_under_0_only n = go L.answer refl s
     where
       go : (r : Solved) → L.answer ≡ r → SaysBy I L r → (L.typing ≡ I.typing) × (L.measure ≡ I.measure) × (L.choices ≡ I.choices)
-      go (Refused c) e x = (ap (λ (M : SolveLeft). M.typing) x.given, ap (λ (M : SolveLeft). M.measure) x.given, ap (λ (M : SolveLeft). M.choices) x.given)
-      go (NoRoom c) e x = (x.outputs.typing, x.outputs.measure, x.outputs.choices)
-      go (NoTyping k) e x = (x.outputs.typing, x.outputs.measure, x.outputs.choices)
-      go (Ambiguous k) e x = (x.outputs.typing, x.outputs.measure, x.outputs.choices)
-      go (Typing o) e x = absurd (n (ap code_solved e))
+      go (Err r) e (inl x) = (
+        ap (λ (M : SolveLeft). M.typing) x.0.given,
+        ap (λ (M : SolveLeft). M.measure) x.0.given,
+        ap (λ (M : SolveLeft). M.choices) x.0.given,
+      )
+      go (Err r) e (inr x) = (x.outputs.typing, x.outputs.measure, x.outputs.choices)
+      go (Ok (NoTyping k)) e x = (x.outputs.typing, x.outputs.measure, x.outputs.choices)
+      go (Ok (Ambiguous k)) e x = (x.outputs.typing, x.outputs.measure, x.outputs.choices)
+      go (Ok (Typing o)) e x = absurd (n (ap code_solved e))
 
   -- after a search scratch is zero, and no node is left but those given
   pub search_clears : first_failing (solve_checks I) ≡ Ok tt → (L.scratch ≡ replicate (length I.scratch) 0)
@@ -130,36 +158,35 @@ module _ (I : Call) (L : SolveLeft) (s : EntrySays I L) where
     where
       go : (r : Solved) → SaysBy I L r → (L.scratch ≡ replicate (length I.scratch) 0)
           × (L.nodes ≡ nodes_given_back I.lengths.nodes I.lengths.arguments I.nodes)
-      go (Refused c) x = let y = x.first in no_confusion (cc)
-      go (NoRoom c) x = (x.memory.scratch, x.memory.nodes)
-      go (NoTyping k) x = (x.searched.memory.scratch, x.searched.memory.nodes)
-      go (Ambiguous k) x = (x.searched.memory.scratch, x.searched.memory.nodes)
-      go (Typing o) x = (x.searched.memory.scratch, x.searched.memory.nodes)
+      go (Err r) (inl x) = let y = x.0.first in no_confusion (cc)
+      go (Err r) (inr x) = (x.memory.scratch, x.memory.nodes)
+      go (Ok (NoTyping k)) x = (x.searched.memory.scratch, x.searched.memory.nodes)
+      go (Ok (Ambiguous k)) x = (x.searched.memory.scratch, x.searched.memory.nodes)
+      go (Ok (Typing o)) x = (x.searched.memory.scratch, x.searched.memory.nodes)
 
 -- Two outcomes of which it says so.
 module _ (I : Call) where
   -- what it says of the answer alone, by the checks and the leaves
   abbrev Tells : Solved → Type 0
-  Tells (Refused c) = first_failing (solve_checks I) ≡ Err c
-  Tells (NoRoom c) = ⊥
-  Tells (NoTyping k) = (first_failing (solve_checks I) ≡ Ok tt) × (leaves_met I ≡ [])
-  Tells (Ambiguous k) = (first_failing (solve_checks I) ≡ Ok tt) × ((m : Components) × Least m (leaves_met I) × (1 < times m (leaves_met I)))
-  Tells (Typing o) = (first_failing (solve_checks I) ≡ Ok tt) × ((m : Components) × Least m (leaves_met I) × (times m (leaves_met I) ≡ 1))
+  Tells (Err r) = first_failing (solve_checks I) ≡ Err r
+  Tells (Ok (NoTyping k)) = (first_failing (solve_checks I) ≡ Ok tt) × (leaves_met I ≡ [])
+  Tells (Ok (Ambiguous k)) = (first_failing (solve_checks I) ≡ Ok tt) × ((m : Components) × Least m (leaves_met I) × (1 < times m (leaves_met I)))
+  Tells (Ok (Typing o)) = (first_failing (solve_checks I) ≡ Ok tt) × ((m : Components) × Least m (leaves_met I) × (times m (leaves_met I) ≡ 1))
 
   tells : (L : SolveLeft) → EntrySays I L → (code_of L ≡ 15 → ⊥) → (code_of L ≡ 16 → ⊥) → Tells L.answer
-  unfolding code_solved
+  unfolding code_solved code_of_refusal
   tells L s n m = go L.answer refl s
     where
       go : (r : Solved) → L.answer ≡ r → SaysBy I L r → Tells r
-      go (Refused c) e x = x.first
-      go (NoRoom c) e x = room x.room
+      go (Err r) e (inl x) = x.0.first
+      go (Err r) e (inr x) = absurd (room x.room)
         where
-          room : (c ≡ 15) ⊎ ((c ≡ 16) × (I.rows.constraints ≡ 0 → ⊥)) → ⊥
-          room (inl i) = n (ap code_solved e ∙ i)
-          room (inr j) = m (ap code_solved e ∙ j.0)
-      go (NoTyping k) e x = (x.searched.passed, x.no_leaf)
-      go (Ambiguous k) e x = (x.searched.passed, x.tied)
-      go (Typing o) e x = (x.searched.passed, (measure_out L o, x.least, x.once))
+          room : (r ≡ SortsFull) ⊎ ((r ≡ NodesFull) × (I.rows.constraints ≡ 0 → ⊥)) → ⊥
+          room (inl i) = n (ap code_solved e ∙ ap code_of_refusal i)
+          room (inr j) = m (ap code_solved e ∙ ap code_of_refusal j.0)
+      go (Ok (NoTyping k)) e x = (x.searched.passed, x.no_leaf)
+      go (Ok (Ambiguous k)) e x = (x.searched.passed, x.tied)
+      go (Ok (Typing o)) e x = (x.searched.passed, (measure_out L o, x.least, x.once))
 
   none_least : leaves_met I ≡ [] → (m : Components) → Least m (leaves_met I) → ⊥
   none_least e m l = not_in_nothing m (subst (In m) e l.among)
@@ -169,27 +196,22 @@ module _ (I : Call) where
 
   one_code : (r t : Solved) → Tells r → Tells t → code_solved r ≡ code_solved t
   unfolding code_solved
-  one_code (Refused c) (Refused d) x y = let q : c ≡ d = cc in ap code_of_refusal q
-  one_code (Refused c) (NoRoom d) x y = absurd y
-  one_code (Refused c) (NoTyping l) x y = let z = y.0 in no_confusion (cc)
-  one_code (Refused c) (Ambiguous l) x y = let z = y.0 in no_confusion (cc)
-  one_code (Refused c) (Typing p) x y = let z = y.0 in no_confusion (cc)
-  one_code (NoRoom c) t x y = absurd x
-  one_code (NoTyping k) (Refused d) x y = let z = x.0 in no_confusion (cc)
-  one_code (NoTyping k) (NoRoom d) x y = absurd y
-  one_code (NoTyping k) (NoTyping l) x y = refl
-  one_code (NoTyping k) (Ambiguous l) x y = absurd (none_least x.1 y.1.0 y.1.1)
-  one_code (NoTyping k) (Typing p) x y = absurd (none_least x.1 y.1.0 y.1.1)
-  one_code (Ambiguous k) (Refused d) x y = let z = x.0 in no_confusion (cc)
-  one_code (Ambiguous k) (NoRoom d) x y = absurd y
-  one_code (Ambiguous k) (NoTyping l) x y = absurd (none_least y.1 x.1.0 x.1.1)
-  one_code (Ambiguous k) (Ambiguous l) x y = refl
-  one_code (Ambiguous k) (Typing p) x y = absurd (often_once x.1.0 y.1.0 x.1.1 x.1.2 y.1.1 y.1.2)
-  one_code (Typing o) (Refused d) x y = let z = x.0 in no_confusion (cc)
-  one_code (Typing o) (NoRoom d) x y = absurd y
-  one_code (Typing o) (NoTyping l) x y = absurd (none_least y.1 x.1.0 x.1.1)
-  one_code (Typing o) (Ambiguous l) x y = absurd (often_once y.1.0 x.1.0 y.1.1 y.1.2 x.1.1 x.1.2)
-  one_code (Typing o) (Typing p) x y = refl
+  one_code (Err c) (Err d) x y = let q : c ≡ d = cc in ap code_of_refusal q
+  one_code (Err c) (Ok (NoTyping l)) x y = let z = y.0 in no_confusion (cc)
+  one_code (Err c) (Ok (Ambiguous l)) x y = let z = y.0 in no_confusion (cc)
+  one_code (Err c) (Ok (Typing p)) x y = let z = y.0 in no_confusion (cc)
+  one_code (Ok (NoTyping k)) (Err d) x y = let z = x.0 in no_confusion (cc)
+  one_code (Ok (NoTyping k)) (Ok (NoTyping l)) x y = refl
+  one_code (Ok (NoTyping k)) (Ok (Ambiguous l)) x y = absurd (none_least x.1 y.1.0 y.1.1)
+  one_code (Ok (NoTyping k)) (Ok (Typing p)) x y = absurd (none_least x.1 y.1.0 y.1.1)
+  one_code (Ok (Ambiguous k)) (Err d) x y = let z = x.0 in no_confusion (cc)
+  one_code (Ok (Ambiguous k)) (Ok (NoTyping l)) x y = absurd (none_least y.1 x.1.0 x.1.1)
+  one_code (Ok (Ambiguous k)) (Ok (Ambiguous l)) x y = refl
+  one_code (Ok (Ambiguous k)) (Ok (Typing p)) x y = absurd (often_once x.1.0 y.1.0 x.1.1 x.1.2 y.1.1 y.1.2)
+  one_code (Ok (Typing o)) (Err d) x y = let z = x.0 in no_confusion (cc)
+  one_code (Ok (Typing o)) (Ok (NoTyping l)) x y = absurd (none_least y.1 x.1.0 x.1.1)
+  one_code (Ok (Typing o)) (Ok (Ambiguous l)) x y = absurd (often_once y.1.0 x.1.0 y.1.1 y.1.2 x.1.1 x.1.2)
+  one_code (Ok (Typing o)) (Ok (Typing p)) x y = refl
 
   -- a call that has room has one verdict, and a typing one measure
   pub one_verdict : (L M : SolveLeft) → EntrySays I L → EntrySays I M → (code_of L ≡ 15 → ⊥) → (code_of L ≡ 16 → ⊥)
@@ -202,17 +224,16 @@ module _ (I : Call) where
 -- A packed answer.
 module _ (I : Call) (q : PackedSolve) (s : PackedSays I q) where
   -- the low byte 0 is a typing, of which all is said that the entry says of one
-  pub zero_is_a_typing : q.result % 256 ≡ 0 → (o : Outputs) × (q.result ≡ pack_solved (Typing o)) × SaysTyping I (left_of (Typing o) q) o
+  pub zero_is_a_typing : q.result % 256 ≡ 0 → (o : Outputs) × (q.result ≡ pack_solved (Ok (Typing o))) × SaysTyping I (left_of (Ok (Typing o)) q) o
   unfolding code_solved
   zero_is_a_typing z = go s.answer s.packed s.within (sym s.low_byte ∙ z) s.says
     where
       go : (r : Solved) → q.result ≡ pack_solved r → SolvedWithin r → code_solved r ≡ 0 → SaysBy I (left_of r q) r
-          → (o : Outputs) × (q.result ≡ pack_solved (Typing o)) × SaysTyping I (left_of (Typing o) q) o
-      go (Refused c) p w e x = absurd (omega (arith, w.0, e))
-      go (NoRoom c) p w e x = absurd (omega (arith, w.0, e))
-      go (NoTyping k) p w e x = absurd (omega (arith, e))
-      go (Ambiguous k) p w e x = absurd (omega (arith, e))
-      go (Typing o) p w e x = (o, p, x)
+          → (o : Outputs) × (q.result ≡ pack_solved (Ok (Typing o))) × SaysTyping I (left_of (Ok (Typing o)) q) o
+      go (Err r) p w e x = absurd (omega (arith, w.0, e))
+      go (Ok (NoTyping k)) p w e x = absurd (omega (arith, e))
+      go (Ok (Ambiguous k)) p w e x = absurd (omega (arith, e))
+      go (Ok (Typing o)) p w e x = (o, p, x)
 
   -- by the leaves that the search met the low byte is 17, 18 or 0
   pub low_byte_by_leaves : first_failing (solve_checks I) ≡ Ok tt → (q.result % 256 ≡ 15 → ⊥) → (q.result % 256 ≡ 16 → ⊥)

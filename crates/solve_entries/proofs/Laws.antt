@@ -1,73 +1,91 @@
 -- The entry, as its code goes: a call that a check refuses is left as it is; one that passes begins the search with nothing, and what is left after the search
 -- is the defined outcome. Assumes nothing.
 use mathlib.Core.Path.{◌≡◌, refl, sym, ap, ◌∙◌, subst}
+use mathlib.Core.Bool.{Bool, true, false}
 use mathlib.Core.List.{List, []}
-use mathlib.Core.Option.{none}
-use Prim.Native.Nat.{ℕ, ◌≤◌}
+use Prim.Native.Nat.{ℕ, ◌*◌, ◌≤◌}
 use native.Mathlib.Omega.{arith}
 use lib.ListN.{length}
+use Rattle.std.specs.Prelude.{Result, Ok, Err}
 use Rattle.resolved_sort.specs.declared.Refusal.{Refusal}
-use Rattle.resolved_sort.specs.Checks.{Tested}
-use Rattle.std.specs.Prelude.{Ok, Err}
-use Rattle.resolved_sort.specs.Checks.{first_failing}
+use Rattle.resolved_sort.specs.Checks.{Tested, first_failing}
+use Rattle.unification.specs.declared.Full.{Full}
 use Rattle.unification.specs.declared.Lengths.{Lengths}
 use Rattle.unification.specs.Nodes.{binds_of}
-use Rattle.inference.specs.declared.Solved.{Solved}
-use Rattle.inference.specs.declared.Solved.TheVariants.{Refused as Refuses}
-use Rattle.inference.specs.Constraints.{base_name_at, rows_from}
-use Rattle.inference.specs.Search.{Out}
+use Rattle.unification.specs.Making.{Lent}
+use Rattle.inference.specs.Constraints.{name_words, BaseName, base_name_at, rows_from}
 use Rattle.inference.specs.SolveChecks.{Call, solve_checks}
-use Rattle.inference.specs.SolveEntry.{SolveLeft, solve_entry, problem_of}
+use Rattle.inference.specs.SolveEntry.{Solved, SolveLeft, solve_entry, problem_of}
+use Rattle.search_state.specs.declared.Search.{Search}
 use Rattle.search_state.specs.declared.Sizes.{Sizes}
-use Rattle.search_state.specs.declared.State.{State}
 use Rattle.search_state.specs.declared.Branch.{Branch}
 use Rattle.search_state.specs.declared.Answer.{Answer}
+use Rattle.search_state.specs.declared.Answer.TheVariants.{Found, Missed, Full as Ended}
 use Rattle.search_state.specs.declared.Next.TheVariants.{Solve}
 use Rattle.search_state.specs.Inner.Memory.{problem_words, problem_in, path_of, world_of, out_of, solve_from}
-use Rattle.search_state.specs.Inner.Searching.{Searching, Done, Comes}
+use Rattle.search_state.specs.Inner.Searching.{SearchGrown, Searching as SearchingIn, Done}
+use Rattle.search_state.specs.Inner.Solving.{Given as GivenTo, Searching, Comes, SameProblem, given_of, lent_of, state_of, answer_of}
 use Rattle.problem_words.specs.Inner.Packed.{Packable, problem_from}
 use Rattle.solve_checks.specs.declared.Given.{Given}
 use Rattle.solve_checks.specs.Inner.Calls.{problem_call}
 use Rattle.solve_checks.specs.Call.{lengths_of, call_of}
+use Rattle.solve_outputs.specs.declared.Handout.{Handout}
 use Rattle.solve_outputs.specs.Inner.Begin.{CountsFit, RowsFit, sizes_of, no_incumbent, nothing_taken}
 use Rattle.solve_outputs.specs.Finish.{solve_left}
 use Rattle.solve_outputs.specs.Inner.Finish.{solve_left_by, settled_by, Handable, SortsReturnable, NodesReturnable}
+use Rattle.solve_outputs.specs.Inner.Handing.{settling, CanHandOut}
 use Rattle.solve_outputs.specs.Packed.{pack_solved, SolvedWithin, packed_solve, pack_solve_left}
 use Rattle.solve_outputs.proofs.Codes.{entry_told}
-use Rattle.solve_outputs.proofs.Passed.{counts_fit, rows_fit, packable, packed_problem, begins, handable}
+use Rattle.solve_outputs.proofs.Passed.{counts_fit, rows_fit, packable, packed_problem, names_whole, begins, handable}
 use Rattle.solve_outputs.proofs.Finished.{left_by_search, left_is_outcome}
+use Rattle.solve_entries.specs.Inner.Searched.{comes_to, settled_from}
 
 -- The search from nothing, and what comes after it.
-module _ (ls : List ℕ) (z : Sizes) (ws ns bs sc : List ℕ) (k : Lengths) (st : State) (q : st ≡ no_incumbent k) (at : Branch) (p : at ≡ nothing_taken)
-    (S : Searching ws ns bs sc ls z (no_incumbent k) nothing_taken 0 [] (Solve 0)) where
-  pub starts : Searching ws ns bs sc ls z st at 0 [] (Solve 0)
-  starts = subst (λ (x : State). Searching ws ns bs sc ls z x at 0 [] (Solve 0)) (sym q)
-      (subst (λ (y : Branch). Searching ws ns bs sc ls z (no_incumbent k) y 0 [] (Solve 0)) (sym p) S)
+module _ (s : Search) (S : Searching s nothing_taken 0 [] (Solve 0)) (e : Branch) (p : e ≡ nothing_taken) where
+  pub starts : Searching s e 0 [] (Solve 0)
+  starts = subst (λ (y : Branch). Searching s y 0 [] (Solve 0)) (sym p) S
 
-  abbrev O : Out (Unit {0})
-  O = solve_from ls z 0 (path_of ls z (binds_of bs k.variables) sc nothing_taken) (world_of ls z ws ns sc (no_incumbent k))
-
-  pub room_after : (ks : List ℕ) (n : ℕ) (ts ms hs : List ℕ) → Handable sc ls ks n z ts ms hs → (ws' ns' sc' : List ℕ)
-      → length ws' ≡ length ws → length ns' ≡ length ns → length sc' ≡ length sc
-      → Handable sc' ls ks n z ts ms hs × SortsReturnable ws' k × NodesReturnable ns' k
-  room_after ks n ts ms hs h ws' ns' sc' a b c = (
-    record { sized = h.sized; used = omega (arith, h.used, c); names = h.names; typing = h.typing; measure = h.measure; choices = h.choices },
-    record { sorts = S.ready.nodes.sorts.sorts; entries = S.ready.nodes.sorts.entries; long = omega (arith, S.ready.nodes.sorts.long, a) },
-    record { nodes = S.ready.nodes.nodes; arguments = S.ready.nodes.entries; long = omega (arith, S.ready.nodes.long, b) },
-  )
-
-  module _ (ws' ns' bs' sc' : List ℕ) (r : Answer) (d : Comes ls z ws ns bs sc st at (solve_from ls z 0) ws' ns' bs' sc' r) where
-    from_nothing : Done ls z ws ns bs sc (no_incumbent k) nothing_taken O ws' ns' bs' sc' r
+  module _ (u : Search) (r : Result Bool Full) (d : Comes s e (λ ls z. solve_from ls z 0) u r) where
+    from_nothing : Done s.lists.now s.sizes s.sorts.now s.nodes.now s.binds.now s.scratch.now (state_of s) nothing_taken (comes_to s)
+        u.sorts.now u.nodes.now u.binds.now u.scratch.now (answer_of (state_of u) r)
     from_nothing =
-        subst (λ (y : Branch). Comes ls z ws ns bs sc (no_incumbent k) y (solve_from ls z 0) ws' ns' bs' sc' r) p
-        (subst (λ (x : State). Comes ls z ws ns bs sc x at (solve_from ls z 0) ws' ns' bs' sc' r) q d)
+        subst (λ (y : Branch). Done s.lists.now s.sizes s.sorts.now s.nodes.now s.binds.now s.scratch.now (state_of s) y
+        (solve_from s.lists.now s.sizes 0 (path_of s.lists.now s.sizes (binds_of s.binds.now s.lengths.variables) s.scratch.now y)
+        (world_of s.lists.now s.sizes s.sorts.now s.nodes.now s.scratch.now (state_of s)))
+        u.sorts.now u.nodes.now u.binds.now u.scratch.now (answer_of (state_of u) r)) p d.comes
 
-    pub search_left : (ks : List ℕ) (n : ℕ) (ts ms hs : List ℕ) (L : SolveLeft)
-        → L ≡ solve_left_by k ns' bs' sc' (settled_by (problem_in ls z) (rows_from (base_name_at ks) 0 n) ts ms hs k (out_of ls z ws' ns' sc' r))
-        → L ≡ solve_left_by k ns bs sc (settled_by (problem_in ls z) (rows_from (base_name_at ks) 0 n) ts ms hs k O)
-    search_left ks n ts ms hs L e =
-        left_by_search ls z ws ns bs sc (no_incumbent k) nothing_taken O ws' ns' bs' sc' r S.ready.nodes
-        from_nothing (rows_from (base_name_at ks) 0 n) ts ms hs L e
+    as_long : (o : Answer) → SearchGrown (lent_of s) u.sorts.now u.nodes.now o
+        → (length u.sorts.now ≡ length s.sorts.now) × (length u.nodes.now ≡ length s.nodes.now)
+    as_long (Found k) g = g.grows.as_long
+    as_long (Missed k) g = g.grows.as_long
+    as_long (Ended c k) g = g.as_long
+
+    pub can_finish : (h : Handout) → CanHandOut s h
+        → CanHandOut u h × SortsReturnable u.sorts.now s.lengths × NodesReturnable u.nodes.now s.lengths
+    can_finish h c =
+        let l = as_long (answer_of (state_of u) r) d.comes.grown in (
+          subst (λ (g : GivenTo). Handable u.scratch.now g.lists g.sizes h.typing.now h.measure.now h.choices.now) (sym d.problem)
+              (record {
+                sized = c.sized;
+                used = omega (arith, c.used, d.comes.path.long);
+                typing = c.typing;
+                measure = c.measure;
+                choices = c.choices;
+              }),
+          record { sorts = S.ready.nodes.sorts.sorts; entries = S.ready.nodes.sorts.entries; long = omega (arith, S.ready.nodes.sorts.long, l.0) },
+          record { nodes = S.ready.nodes.nodes; arguments = S.ready.nodes.entries; long = omega (arith, S.ready.nodes.long, l.1) },
+        )
+
+    pub search_left : (names : List BaseName) (h : Handout) (L : SolveLeft)
+        → L ≡ solve_left_by s.lengths u.nodes.now u.binds.now u.scratch.now (settling u names h s.lengths r)
+        → L ≡ solve_left_by s.lengths s.nodes.now s.binds.now s.scratch.now (settled_from s names h)
+    search_left names h L q =
+        left_by_search s.lists.now s.sizes s.sorts.now s.nodes.now s.binds.now s.scratch.now (state_of s) nothing_taken (comes_to s)
+        u.sorts.now u.nodes.now u.binds.now u.scratch.now (answer_of (state_of u) r) S.ready.nodes from_nothing
+        names h.typing.now h.measure.now h.choices.now L
+        (q ∙ ap (λ (g : GivenTo). solve_left_by s.lengths u.nodes.now u.binds.now u.scratch.now
+        (settled_by (problem_in g.lists g.sizes) names h.typing.now h.measure.now h.choices.now s.lengths
+        (out_of g.lists g.sizes u.sorts.now u.nodes.now u.scratch.now (answer_of (state_of u) r)))) d.problem)
 
 -- A call.
 module _ (g : Given) (ws ns bs xs ks cs os ss sc ts ms hs : List ℕ) where
@@ -76,7 +94,7 @@ module _ (g : Given) (ws ns bs xs ks cs os ss sc ts ms hs : List ℕ) where
 
   -- refused
   module _ (t : Tested) (e : t ≡ first_failing (solve_checks I)) where
-    pub refused_so : (c : Refusal) → t ≡ Err c → solve_left (Refuses c) ws ns bs sc ts ms hs ≡ solve_entry I
+    pub refused_so : (c : Refusal) → t ≡ Err c → solve_left (Err c) ws ns bs sc ts ms hs ≡ solve_entry I
     unfolding solve_entry
     refused_so c h = rw (sym e ∙ h)
 
@@ -87,6 +105,9 @@ module _ (g : Given) (ws ns bs xs ks cs os ss sc ts ms hs : List ℕ) where
   module _ (f : first_failing (solve_checks I) ≡ Ok tt) where
     pub lengths_fit : CountsFit (lengths_of g)
     lengths_fit = counts_fit I f
+
+    pub names_lent : name_words * g.names ≤ length ks
+    names_lent = names_whole I f
 
     pub sizes_fit : RowsFit (problem_call g [] [] cs [] [])
     sizes_fit =
@@ -113,12 +134,12 @@ module _ (g : Given) (ws ns bs xs ks cs os ss sc ts ms hs : List ℕ) where
         says_problem = subst (λ y. problem_in ls y ≡ problem_from xs cs os ss y) same_sizes p ∙ packed_problem I
 
         module _ (k : Lengths) (v : k ≡ lengths_of g) where
-          pub search_asked : Searching ws ns bs sc ls z (no_incumbent k) nothing_taken 0 [] (Solve 0) × Handable sc ls ks g.names z ts ms hs
+          pub search_asked : SearchingIn ws ns bs sc ls z (no_incumbent k) nothing_taken 0 [] (Solve 0) × Handable sc ls z ts ms hs
           search_asked = (
-            subst (λ (y : Sizes). Searching ws ns bs sc ls y (no_incumbent k) nothing_taken 0 [] (Solve 0)) (sym same_sizes)
-                (subst (λ (m : Lengths). Searching ws ns bs sc ls (sizes_of I) (no_incumbent m) nothing_taken 0 []
+            subst (λ (y : Sizes). SearchingIn ws ns bs sc ls y (no_incumbent k) nothing_taken 0 [] (Solve 0)) (sym same_sizes)
+                (subst (λ (m : Lengths). SearchingIn ws ns bs sc ls (sizes_of I) (no_incumbent m) nothing_taken 0 []
                 (Solve 0)) (sym v) (begins I f ls says_problem)),
-            subst (λ (y : Sizes). Handable sc ls ks g.names y ts ms hs) (sym same_sizes) (handable I f ls says_problem sc refl),
+            subst (λ (y : Sizes). Handable sc ls y ts ms hs) (sym same_sizes) (handable I f ls says_problem sc refl),
           )
 
           pub is_outcome : (L : SolveLeft)

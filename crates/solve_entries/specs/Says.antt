@@ -1,22 +1,22 @@
 -- What the entry solve answers and leaves, whatever it is given: demand 3, and the verdict by the leaves that the
 -- search met, with what becomes of the lent memory.
-use Rattle.resolved_sort.specs.declared.Refusal.{Refusal}
 use Rattle.std.specs.Prelude.{◌≡◌, ◌⊎◌, ℕ, ◌%◌, ◌<◌, [], Ok, Err}
 use Rattle.std.proofs.Math.Option.{none, some}
 use Rattle.resolved_sort.specs.declared.Counts.{Counts}
+use Rattle.resolved_sort.specs.declared.Refusal.{Refusal}
+use Rattle.resolved_sort.specs.declared.Refusal.TheVariants.{SortsFull, NodesFull}
 use Rattle.resolved_sort.specs.Storage.{given_back}
-use Rattle.resolved_sort.specs.Checks.{first_failing}
+use Rattle.resolved_sort.specs.Checks.{first_failing, Numbered}
 use Rattle.resolved_sort.specs.Entries.{tree_at}
 use Rattle.unification.specs.Nodes.{binds_of}
 use Rattle.unification.specs.Making.{graph}
 use Rattle.inference.specs.declared.Outputs.{Outputs}
-use Rattle.inference.specs.declared.Solved.{Solved}
-use Rattle.inference.specs.declared.Solved.TheVariants.{Refused, NoRoom, NoTyping, Ambiguous, Typing}
+use Rattle.inference.specs.declared.Verdict.TheVariants.{NoTyping, Ambiguous, Typing}
 use Rattle.inference.specs.Measure.{Components}
 use Rattle.inference.specs.Search.{sort_in}
 use Rattle.inference.specs.SolveChecks.{Call, solve_checks}
-use Rattle.inference.specs.SolveEntry.{SolveLeft, problem_of, lent_of, refused, nodes_given_back, cleared, code_solved}
-use Rattle.inference.specs.SolveEntry.{sorts_out, measure_out, choices_out}
+use Rattle.inference.specs.SolveEntry.{Solved, SolveLeft, problem_of, lent_of, refused, nodes_given_back, cleared}
+use Rattle.inference.specs.SolveEntry.{code_solved, sorts_out, measure_out, choices_out}
 use Rattle.inference.specs.Typing.{HoldsTogether}
 use Rattle.inference.specs.Explained.{Explained}
 use Rattle.inference.specs.Named.{Named}
@@ -46,9 +46,9 @@ module _ (I : Call) (L : SolveLeft) where
   Constrained = I.rows.constraints ≡ 0 → ⊥
 
   -- 15 or 16, and without constraints 15 only: the sorts given, with zeros after them
-  pub record SaysNoRoom (c : ℕ) : Type 0 where
+  pub record SaysNoRoom (r : Refusal) : Type 0 where
     pub passed : first_failing (solve_checks I) ≡ Ok tt
-    pub room : (c ≡ 15) ⊎ ((c ≡ 16) × Constrained)
+    pub room : (r ≡ SortsFull) ⊎ ((r ≡ NodesFull) × Constrained)
     pub sorts : L.sorts ≡ given_back I.lengths.sorts I.lengths.entries I.sorts
     pub memory : Cleared
     pub outputs : OutputsAsGiven
@@ -87,11 +87,10 @@ module _ (I : Call) (L : SolveLeft) where
     pub once : times (measure_out L o) (leaves_met I) ≡ 1
 
   abbrev pub SaysBy : Solved → Type 0
-  SaysBy (Refused c) = SaysRefused c
-  SaysBy (NoRoom c) = SaysNoRoom c
-  SaysBy (NoTyping k) = SaysNoTyping k
-  SaysBy (Ambiguous k) = SaysAmbiguous k
-  SaysBy (Typing o) = SaysTyping o
+  SaysBy (Err r) = (SaysRefused r × Numbered r) ⊎ SaysNoRoom r
+  SaysBy (Ok (NoTyping k)) = SaysNoTyping k
+  SaysBy (Ok (Ambiguous k)) = SaysAmbiguous k
+  SaysBy (Ok (Typing o)) = SaysTyping o
 
 -- what the entry says of the call I by what it answers and leaves
 abbrev pub EntrySays : Call → SolveLeft → Type 0

@@ -5,66 +5,42 @@
 
 ghost use Rattle.std.specs.Prelude.{◌≡◌, [], Ok};
 ghost use Rattle.resolved_sort.specs.Checks.{first_failing};
-ghost use Rattle.unification.specs.Nodes.{binds_of};
-ghost use Rattle.inference.specs.Constraints.{base_name_at, rows_from};
 ghost use Rattle.inference.specs.SolveChecks.{solve_checks};
 ghost use Rattle.inference.specs.SolveEntry.{solve_entry};
 ghost use Rattle.search_state.specs.declared.Next.TheVariants.{Solve};
-ghost use Rattle.search_state.specs.Inner.Memory.{problem_in, path_of, world_of, solve_from};
-ghost use Rattle.search_state.specs.Inner.Searching.{Searching};
-ghost use Rattle.solve_outputs.specs.Inner.Begin.{no_incumbent, nothing_taken};
+ghost use Rattle.search_state.specs.Inner.Solving.{Searching, SameProblem};
+ghost use Rattle.solve_outputs.specs.Inner.Begin.{nothing_taken};
 ghost use Rattle.solve_checks.specs.Call.{call_of};
-ghost use Rattle.solve_outputs.specs.Finish.{solve_left};
-ghost use Rattle.solve_outputs.specs.Inner.Finish.{solve_left_by, settled_by, Handable};
+ghost use Rattle.solve_outputs.specs.Handout.{call_with, solve_left_with, SameHandout};
+ghost use Rattle.solve_outputs.specs.Inner.Finish.{solve_left_by, SortsReturnable, NodesReturnable};
+ghost use Rattle.solve_outputs.specs.Inner.Handing.{names_in, left_in, CanHandOut};
 ghost use Rattle.solve_outputs.specs.Packed.{packed_solve, pack_solve_left};
 ghost use Rattle.solve_entries.specs.Given.{given_of};
+ghost use Rattle.solve_entries.specs.Inner.Searched.{settled_from};
 
-use inference::Solved;
+use inference::Verdict;
 use problem_words::pack;
-use resolved_sort::SortId;
-use search_state::{PROBLEM_WORDS, Sizes};
+use resolved_sort::{Refusal, SortId};
+use search_state::{PROBLEM_WORDS, Search};
 use solve_checks::{Given, Room, test_solve};
-use solve_outputs::{finish, lengths_of, no_incumbent, nothing_taken, pack_solved, sizes_of};
-use unification::Lengths;
+use solve_outputs::{BaseNames, Handout, finish, lengths_of, nothing_taken, pack_solved, sizes_of};
 
 // The search, from the first constraint on, and what comes after it.
-fn search(
-    sorts: &mut [u16],
-    nodes: &mut [u16],
-    binds: &mut [u16],
-    scratch: &mut [u16],
-    typing: &mut [u16],
-    measure: &mut [u16],
-    choices: &mut [u16],
-    lists: &[u16],
-    names: &[u16],
-    name_count: usize,
-    sizes: Sizes,
-    lengths: Lengths,
-) -> Solved
-    requires { Searching sorts.old nodes.old binds.old scratch.old lists.now sizes (no_incumbent lengths)
-        nothing_taken 0 [] (Solve 0)
-        × Handable scratch.old lists.now names.now name_count sizes
-        typing.old measure.old choices.old }
-    ensures { solve_left result sorts.new nodes.new binds.new scratch.new
-        typing.new measure.new choices.new
-        ≡ solve_left_by lengths nodes.old binds.old scratch.old
-        (settled_by (problem_in lists.now sizes)
-        (rows_from (base_name_at names.now) 0 name_count)
-        typing.old measure.old choices.old lengths
-        (solve_from lists.now sizes 0
-        (path_of lists.now sizes (binds_of binds.old lengths.variables)
-        scratch.old nothing_taken)
-        (world_of lists.now sizes sorts.old nodes.old scratch.old
-        (no_incumbent lengths)))) }
+fn run(
+    search: &mut Search<'_>,
+    handout: &mut Handout<'_>,
+    names: &BaseNames<'_>,
+) -> Result<Verdict, Refusal>
+    requires { Searching search.old nothing_taken 0 [] (Solve 0) × CanHandOut search.old handout.old }
+    ensures says { left_in result search.new handout.new
+        ≡ solve_left_by search.old.lengths search.old.nodes.now search.old.binds.now search.old.scratch.now
+        (settled_from search.old (names_in names.now.words.now names.now.count) handout.old) }
+    ensures same_problem { SameProblem search.old search.new }
+    ensures same_handout { SameHandout handout.old handout.new }
 {
-    let st = no_incumbent(lengths);
-    let at = nothing_taken();
-    let answer = solver::solve_lent(sorts, nodes, binds, scratch, lists, sizes, st, at, 0);
-    finish(
-        sorts, nodes, scratch, typing, measure, choices, lists, names, name_count, sizes, lengths,
-        answer,
-    )
+    let entry = search.lengths;
+    let found = solver::solve(search, nothing_taken(), 0);
+    finish(search, handout, names, entry, found)
 }
 
 // Solve on lists that passed their checks.
@@ -79,39 +55,35 @@ fn solve_passed(
     sources: &[u16],
     given: Given,
     scratch: &mut [u16],
-    typing: &mut [u16],
-    measure: &mut [u16],
-    choices: &mut [u16],
-) -> Solved
-    requires { first_failing (solve_checks (call_of given sorts.old nodes.old binds.old exprs.now names.now
-        constraints.now overloads.now sources.now scratch.old typing.old measure.old
-        choices.old))
+    handout: &mut Handout<'_>,
+) -> Result<Verdict, Refusal>
+    requires { first_failing (solve_checks (call_with given sorts.old nodes.old binds.old exprs.now names.now
+        constraints.now overloads.now sources.now scratch.old handout.old))
         ≡ Ok tt }
-    ensures { solve_left result sorts.new nodes.new binds.new scratch.new
-        typing.new measure.new choices.new
-        ≡ solve_entry (call_of given sorts.old nodes.old binds.old
-        exprs.now names.now constraints.now overloads.now
-        sources.now scratch.old typing.old measure.old
-        choices.old) }
+    ensures says { solve_left_with result sorts.new nodes.new binds.new scratch.new handout.new
+        ≡ solve_entry (call_with given sorts.old nodes.old binds.old exprs.now names.now constraints.now
+        overloads.now sources.now scratch.old handout.old) }
+    ensures same_reference { SameHandout handout.old handout.new }
 {
     let lengths = lengths_of(given);
     let sizes = sizes_of(constraints, given);
     let mut lists = [0; PROBLEM_WORDS];
     pack(&mut lists, exprs, constraints, overloads, sources, sizes);
-    search(
+    let names = BaseNames {
+        words: names,
+        count: given.names,
+    };
+    let mut search = Search {
         sorts,
         nodes,
         binds,
         scratch,
-        typing,
-        measure,
-        choices,
-        &lists,
-        names,
-        given.names,
+        lists: &lists,
         sizes,
         lengths,
-    )
+        best: None,
+    };
+    run(&mut search, handout, &names)
 }
 
 // Infers the sorts of the expressions. A refusal (1 to 14) changes nothing. After 15 and 16 sorts and nodes are those
@@ -130,24 +102,20 @@ pub fn solve(
     sources: &[u16],
     given: Given,
     scratch: &mut [u16],
-    typing: &mut [u16],
-    measure: &mut [u16],
-    choices: &mut [u16],
-) -> Solved
-    ensures { solve_left result sorts.new nodes.new binds.new scratch.new
-        typing.new measure.new choices.new
-        ≡ solve_entry (call_of given sorts.old nodes.old binds.old
-        exprs.now names.now constraints.now overloads.now
-        sources.now scratch.old typing.old measure.old
-        choices.old) }
+    handout: &mut Handout<'_>,
+) -> Result<Verdict, Refusal>
+    ensures says { solve_left_with result sorts.new nodes.new binds.new scratch.new handout.new
+        ≡ solve_entry (call_with given sorts.old nodes.old binds.old exprs.now names.now constraints.now
+        overloads.now sources.now scratch.old handout.old) }
+    ensures same_reference { SameHandout handout.old handout.new }
 {
     let room = Room {
         scratch: scratch.len(),
-        typing: typing.len(),
-        measure: measure.len(),
-        choices: choices.len(),
+        typing: handout.typing.len(),
+        measure: handout.measure.len(),
+        choices: handout.choices.len(),
     };
-    match test_solve(
+    test_solve(
         sorts,
         nodes,
         binds,
@@ -158,24 +126,20 @@ pub fn solve(
         sources,
         given,
         room,
-    ) {
-        Err(refusal) => Solved::Refused(refusal),
-        Ok(()) => solve_passed(
-            sorts,
-            nodes,
-            binds,
-            exprs,
-            names,
-            constraints,
-            overloads,
-            sources,
-            given,
-            scratch,
-            typing,
-            measure,
-            choices,
-        ),
-    }
+    )?;
+    solve_passed(
+        sorts,
+        nodes,
+        binds,
+        exprs,
+        names,
+        constraints,
+        overloads,
+        sources,
+        given,
+        scratch,
+        handout,
+    )
 }
 
 // The entry for callers in other languages: a slice is a pointer and a length, counts are numbers,
@@ -227,6 +191,11 @@ pub extern "C" fn sort_solve(
         sources: source_count,
         default: SortId(default),
     };
+    let mut handout = Handout {
+        typing,
+        measure,
+        choices,
+    };
     pack_solved(solve(
         sorts,
         nodes,
@@ -238,8 +207,6 @@ pub extern "C" fn sort_solve(
         sources,
         given,
         scratch,
-        typing,
-        measure,
-        choices,
+        &mut handout,
     ))
 }

@@ -6,10 +6,11 @@
 use mathlib.Core.Path.{◌≡◌, refl, sym, ap, subst, ◌∙◌}
 use mathlib.Core.Bool.{false, true}
 use mathlib.Core.List.{List}
-use mathlib.Core.Logic.{◌↔◌}
+use mathlib.Core.Logic.{◌↔◌, inl, inr}
 use Prim.Native.Nat.{ℕ}
 use lib.ListN.{take, drop}
 use Rattle.std.specs.Prelude.{Err, Ok}
+use Rattle.resolved_sort.specs.declared.Refusal.{Refusal}
 use Rattle.resolved_sort.specs.declared.Refusal.TheVariants.{Cyclic as CyclicBindings}
 use Rattle.resolved_sort.specs.Checks.{Check, first_failing, Tested}
 use Rattle.resolved_sort.specs.Entries.{refused_or}
@@ -22,9 +23,8 @@ use Rattle.unification.specs.Checked.{ListsFine, lists_of}
 use Rattle.unification.proofs.Theorem.{check_7_exactly}
 use Rattle.unification.proofs.Passed.{length_binds, passed_fine}
 use Rattle.resolved_sort.proofs.FailingNumber.{fails_first}
-use Rattle.inference.specs.declared.Solved.TheVariants.{Refused}
 use Rattle.inference.specs.SolveChecks.{Call, solve_checks}
-use Rattle.inference.specs.SolveEntry.{searched, refused, verdict, nothing_met, solve_entry}
+use Rattle.inference.specs.SolveEntry.{Solved, searched, refused, verdict, nothing_met, solve_entry}
 use Rattle.inference.proofs.Accepted.{within}
 use Rattle.solve_outputs.proofs.Codes.{Searched, searched_answers}
 
@@ -45,14 +45,21 @@ module _ (I : Call) where
   abbrev seventh : Check
   seventh = record { refusal = CyclicBindings; passes = acyclic I.nodes m binds }
 
-  answers_seven : ((solve_entry I).answer ≡ Refused CyclicBindings) ↔ (first_failing (solve_checks I) ≡ Err CyclicBindings)
+  answers_seven : ((solve_entry I).answer ≡ Err CyclicBindings) ↔ (first_failing (solve_checks I) ≡ Err CyclicBindings)
   unfolding solve_entry
   answers_seven = (λ a. go (first_failing (solve_checks I)) refl a, λ f. rw f)
     where
-      go : (o : Tested) → first_failing (solve_checks I) ≡ o → (solve_entry I).answer ≡ Refused CyclicBindings → o ≡ Err CyclicBindings
-      go (Ok u) x a = absurd (subst (Searched I) a (searched_answers I x))
+      failed : Refusal → Solved
+      failed c = Err c
+
+      no_room : {A : Type 0} → Searched I (Err CyclicBindings) → A
+      no_room (inl e) = no_confusion cc
+      no_room (inr e) = no_confusion cc
+
+      go : (o : Tested) → first_failing (solve_checks I) ≡ o → (solve_entry I).answer ≡ Err CyclicBindings → o ≡ Err CyclicBindings
+      go (Ok u) x a = no_room (subst (Searched I) a (searched_answers I x))
       go (Err c) x a =
-          let z : Refused c ≡ Refused CyclicBindings = ap (λ (o : Tested). (refused_or o (refused I)
+          let z : failed c ≡ Err CyclicBindings = ap (λ (o : Tested). (refused_or o (refused I)
           (verdict I (searched (Unit {0}) nothing_met tt I))).answer) (sym x) ∙ a in
           let y : c ≡ CyclicBindings = cc in ap Err y
 
@@ -108,7 +115,7 @@ module _ (I : Call) where
         lists_fine.1).1
 
   -- Whatever the call is: it is answered by 7 exactly if checks 1 to 6 pass and some variable reaches itself.
-  pub solve_code_7_exactly : ((solve_entry I).answer ≡ Refused CyclicBindings)
+  pub solve_code_7_exactly : ((solve_entry I).answer ≡ Err CyclicBindings)
       ↔ ((first_failing first_six ≡ Ok tt) × Cyclic (shape_at (lists_of I.sorts I.lengths.sorts I.nodes
       I.lengths.nodes)) (binds_of I.binds I.lengths.variables))
   solve_code_7_exactly = (

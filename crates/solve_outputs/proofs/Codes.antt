@@ -1,10 +1,10 @@
--- The numbers that the solver's answer has: a refusal is by a check, 1 to 14; no room is 15 or 16; sorts, entries, components and choices are within their
+-- The numbers that the solver's answer has: a refusal is by a check, 1 to 14, or 15 or 16 where room ended; sorts, entries, components and choices are within their
 -- ceilings. By the first failing check and by what the search leaves. So the packed answer has document 01's number
 -- in its low byte and tells all answers apart: by the
 -- cases of two answers. Assumes nothing.
 use mathlib.Core.Path.{◌≡◌, refl, sym, ap, subst, ◌∙◌}
 use mathlib.Core.Bool.{Bool, true, false}
-use mathlib.Core.Logic.{inl, inr}
+use mathlib.Core.Logic.{◌⊎◌, inl, inr}
 use mathlib.Core.Option.{Option, none, some}
 use Prim.Native.Nat.{ℕ, ◌%◌}
 use native.Mathlib.Omega.{arith}
@@ -16,12 +16,13 @@ use Rattle.resolved_sort.specs.Checks.{first_failing, Numbered, Tested, code_of}
 use Rattle.unification.specs.NodeChecks.{node_checks}
 use Rattle.unification.specs.Making.{Lent}
 use Rattle.resolved_sort.proofs.FailingNumber.{failing_number}
-use Rattle.inference.specs.declared.Solved.{Solved}
-use Rattle.inference.specs.declared.Solved.TheVariants.{Refused, NoRoom, NoTyping, Ambiguous, Typing}
+use Rattle.resolved_sort.specs.declared.Refusal.TheVariants.{SortsFull, NodesFull}
+use Rattle.inference.specs.declared.Verdict.{Verdict}
+use Rattle.inference.specs.declared.Verdict.TheVariants.{NoTyping, Ambiguous, Typing}
 use Rattle.inference.specs.Search.{Candidate, World, Out, found, missed, ended}
 use Rattle.inference.specs.SolveChecks.{Call, given, solve_checks}
-use Rattle.inference.specs.SolveEntry.{problem_of, start_path, lent_of, searched, SolveLeft, judged, judged_by, verdict}
-use Rattle.inference.specs.SolveEntry.{nothing_met, solve_entry, code_solved, choices_out}
+use Rattle.inference.specs.SolveEntry.{Solved, problem_of, start_path, lent_of, searched, SolveLeft, judged, judged_by}
+use Rattle.inference.specs.SolveEntry.{room_refusal, verdict, nothing_met, solve_entry, code_solved, choices_out}
 use Rattle.inference.proofs.Accepted.{passed_is_searched}
 use Rattle.inference.specs.ListsLeft.{counts_told}
 use Rattle.inference.proofs.ListsLeft.{sorts_only_grow}
@@ -35,7 +36,7 @@ use Rattle.solve_outputs.specs.Packed.{coded_solved, solved_widths, pack_solved,
 use Rattle.solve_outputs.proofs.Passed.{rows_fit}
 
 module _ (I : Call) where
-  refused_by_number : (c : Refusal) → first_failing (solve_checks I) ≡ Err c → Numbered c
+  pub refused_by_number : (c : Refusal) → first_failing (solve_checks I) ≡ Err c → Numbered c
   unfolding solve_checks node_checks code_of
   refused_by_number c x = failing_number Numbered (solve_checks I) c (
     (omega arith, omega arith),
@@ -78,11 +79,8 @@ module _ (I : Call) where
 
   -- what the search alone can answer
   abbrev pub Searched : Solved → Type 0
-  Searched (Refused c) = ⊥
-  Searched (NoRoom c) = Ends c
-  Searched (NoTyping k) = Unit {0}
-  Searched (Ambiguous k) = Unit {0}
-  Searched (Typing o) = Unit {0}
+  Searched (Err r) = (r ≡ SortsFull) ⊎ (r ≡ NodesFull)
+  Searched (Ok v) = Unit {0}
 
   by_tie : (W : Lent) (c : Candidate) (b : Bool) → Searched (judged_by I W c b).answer
   by_tie W c true = tt
@@ -93,10 +91,14 @@ module _ (I : Call) where
   by_best W (some c) = by_tie W c c.duplicate
 
   by_out : (w : World (Unit {0})) (O : Out (Unit {0})) → Goes (Fitting (Unit {0}) nothing_met (problem_of I) (given I)) w O → Searched (verdict I O).answer
-  unfolding Goes
+  unfolding Goes room_refusal
   by_out w (found v) g = by_best v.lent v.best
   by_out w (missed v) g = by_best v.lent v.best
-  by_out w (ended c W) g = g
+  by_out w (ended c W) g = room c g
+    where
+      room : (c : ℕ) → Ends c → (room_refusal c ≡ SortsFull) ⊎ (room_refusal c ≡ NodesFull)
+      room c (inl i) = inl (ap room_refusal i)
+      room c (inr i) = inr (ap room_refusal i)
 
   -- a call that passed its checks
   module _ (x : first_failing (solve_checks I) ≡ Ok tt) where
@@ -110,12 +112,12 @@ module _ (I : Call) where
     within k e = let g = sorts_only_grow I k e in record { sorts = g.checked.sorts; entries = g.checked.entries }
 
     by_answer : (r : Solved) → (solve_entry I).answer ≡ r → Searched r → SolvedWithin r
-    by_answer (Refused c) e s = absurd s
-    by_answer (NoRoom c) e (inl i) = (omega (arith, i), omega (arith, i))
-    by_answer (NoRoom c) e (inr i) = (omega (arith, i), omega (arith, i))
-    by_answer (NoTyping k) e s = within k (ap counts_told e)
-    by_answer (Ambiguous k) e s = within k (ap counts_told e)
-    by_answer (Typing o) e s =
+    unfolding code_of
+    by_answer (Err r) e (inl i) = rw i (omega arith, omega arith)
+    by_answer (Err r) e (inr i) = rw i (omega arith, omega arith)
+    by_answer (Ok (NoTyping k)) e s = within k (ap counts_told e)
+    by_answer (Ok (Ambiguous k)) e s = within k (ap counts_told e)
+    by_answer (Ok (Typing o)) e s =
         let n = names_and_choices I o e in
         let f = rows_fit I x in (
           within o.counts (ap counts_told e),
@@ -138,16 +140,15 @@ module _ (I : Call) where
     where
       go : (o : Tested) → first_failing (solve_checks I) ≡ o → SolvedWithin (solve_entry I).answer
       go (Ok u) x = passed_told x
-      go (Err c) x = rw x (refused_by_number c x)
+      go (Err c) x = let n = refused_by_number c x in rw x (n.0, omega (arith, n.1))
 
 -- numbers within their bounds fit their fields
 solved_fits : (r : Solved) → SolvedWithin r → FitsWidths solved_widths (coded_solved r)
 unfolding FitFields code_solved
-solved_fits (Refused c) t = (omega (arith, t.1), tt)
-solved_fits (NoRoom c) t = (omega (arith, t.1), tt)
-solved_fits (NoTyping k) t = (omega arith, (omega (arith, t.sorts), (omega (arith, t.entries), tt)))
-solved_fits (Ambiguous k) t = (omega arith, (omega (arith, t.sorts), (omega (arith, t.entries), tt)))
-solved_fits (Typing o) t =
+solved_fits (Err r) t = (omega (arith, t.1), tt)
+solved_fits (Ok (NoTyping k)) t = (omega arith, (omega (arith, t.sorts), (omega (arith, t.entries), tt)))
+solved_fits (Ok (Ambiguous k)) t = (omega arith, (omega (arith, t.sorts), (omega (arith, t.entries), tt)))
+solved_fits (Ok (Typing o)) t =
     (omega arith, (omega (arith, t.0.sorts), (omega (arith, t.0.entries), (omega (arith, t.1), (omega (arith, t.2), tt)))))
 
 -- document 01's number is the low byte
@@ -167,29 +168,21 @@ packed_tells r s t u p =
 
     go : (r s : Solved) → SolvedWithin r → SolvedWithin s → (coded_solved r).code ≡ (coded_solved s).code
         → ((i : ℕ) → get_or (coded_solved r).values i 0 ≡ get_or (coded_solved s).values i 0) → r ≡ s
-    go (Refused c) (Refused d) t u e v = ap Refused (codes_tell c d e)
-    go (Refused c) (NoRoom d) t u e v = absurd (omega (arith, e, t.1, u.0))
-    go (Refused c) (NoTyping l) t u e v = absurd (omega (arith, e, t.1))
-    go (Refused c) (Ambiguous l) t u e v = absurd (omega (arith, e, t.1))
-    go (Refused c) (Typing p) t u e v = absurd (omega (arith, e, t.0))
-    go (NoRoom c) (Refused d) t u e v = absurd (omega (arith, e, t.0, u.1))
-    go (NoRoom c) (NoRoom d) t u e v = ap NoRoom e
-    go (NoRoom c) (NoTyping l) t u e v = absurd (omega (arith, e, t.1))
-    go (NoRoom c) (Ambiguous l) t u e v = absurd (omega (arith, e, t.1))
-    go (NoRoom c) (Typing p) t u e v = absurd (omega (arith, e, t.0))
-    go (NoTyping k) (Refused d) t u e v = absurd (omega (arith, e, u.1))
-    go (NoTyping k) (NoRoom d) t u e v = absurd (omega (arith, e, u.1))
-    go (NoTyping k) (NoTyping l) t u e v = ap NoTyping (counts k l (v 0) (v 1))
-    go (NoTyping k) (Ambiguous l) t u e v = absurd (omega (arith, e))
-    go (NoTyping k) (Typing p) t u e v = absurd (omega (arith, e))
-    go (Ambiguous k) (Refused d) t u e v = absurd (omega (arith, e, u.1))
-    go (Ambiguous k) (NoRoom d) t u e v = absurd (omega (arith, e, u.1))
-    go (Ambiguous k) (NoTyping l) t u e v = absurd (omega (arith, e))
-    go (Ambiguous k) (Ambiguous l) t u e v = ap Ambiguous (counts k l (v 0) (v 1))
-    go (Ambiguous k) (Typing p) t u e v = absurd (omega (arith, e))
-    go (Typing o) (Refused d) t u e v = absurd (omega (arith, e, u.0))
-    go (Typing o) (NoRoom d) t u e v = absurd (omega (arith, e, u.0))
-    go (Typing o) (NoTyping l) t u e v = absurd (omega (arith, e))
-    go (Typing o) (Ambiguous l) t u e v = absurd (omega (arith, e))
-    go (Typing o) (Typing p) t u e v =
-        let k = counts o.counts p.counts (v 0) (v 1) in λ i. Typing (record { counts = k i; components = v 2 i; choices = v 3 i })
+    go (Err c) (Err d) t u e v = ap Err (codes_tell c d e)
+    go (Err c) (Ok (NoTyping l)) t u e v = absurd (omega (arith, e, t.1))
+    go (Err c) (Ok (Ambiguous l)) t u e v = absurd (omega (arith, e, t.1))
+    go (Err c) (Ok (Typing p)) t u e v = absurd (omega (arith, e, t.0))
+    go (Ok (NoTyping k)) (Err d) t u e v = absurd (omega (arith, e, u.1))
+    go (Ok (NoTyping k)) (Ok (NoTyping l)) t u e v = ap (λ n. Ok (NoTyping n)) (counts k l (v 0) (v 1))
+    go (Ok (NoTyping k)) (Ok (Ambiguous l)) t u e v = absurd (omega (arith, e))
+    go (Ok (NoTyping k)) (Ok (Typing p)) t u e v = absurd (omega (arith, e))
+    go (Ok (Ambiguous k)) (Err d) t u e v = absurd (omega (arith, e, u.1))
+    go (Ok (Ambiguous k)) (Ok (NoTyping l)) t u e v = absurd (omega (arith, e))
+    go (Ok (Ambiguous k)) (Ok (Ambiguous l)) t u e v = ap (λ n. Ok (Ambiguous n)) (counts k l (v 0) (v 1))
+    go (Ok (Ambiguous k)) (Ok (Typing p)) t u e v = absurd (omega (arith, e))
+    go (Ok (Typing o)) (Err d) t u e v = absurd (omega (arith, e, u.0))
+    go (Ok (Typing o)) (Ok (NoTyping l)) t u e v = absurd (omega (arith, e))
+    go (Ok (Typing o)) (Ok (Ambiguous l)) t u e v = absurd (omega (arith, e))
+    go (Ok (Typing o)) (Ok (Typing p)) t u e v =
+        let k = counts o.counts p.counts (v 0) (v 1) in
+        λ i. Ok (Typing (record { counts = k i; components = v 2 i; choices = v 3 i }))

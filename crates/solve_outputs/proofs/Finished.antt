@@ -7,19 +7,18 @@ use mathlib.Core.List.{List, []}
 use mathlib.Core.Option.{Option, none, some}
 use Prim.Native.Nat.{ℕ}
 use lib.ListN.{length, replicate}
-use Rattle.std.specs.Prelude.{Ok}
+use Rattle.std.specs.Prelude.{Ok, Err}
 use Rattle.resolved_sort.specs.Checks.{first_failing}
 use Rattle.resolved_sort.proofs.GivenBack.{given_back_agrees}
 use Rattle.unification.specs.Nodes.{binds_of}
 use Rattle.unification.specs.Making.{Lent}
 use Rattle.unification.specs.Inner.Making.{lent}
 use Rattle.unification.specs.Growing.{CheckedLent, NodesAgree}
-use Rattle.inference.specs.declared.Solved.TheVariants.{NoRoom}
 use Rattle.inference.specs.Constraints.{BaseName}
 use Rattle.inference.specs.Search.{Candidate, Out, found, missed, ended, solve}
 use Rattle.inference.specs.SolveChecks.{Call, solve_checks}
 use Rattle.inference.specs.SolveEntry.{problem_of, base_names_of, lent_of, searched, SolveLeft, cleared, left_with}
-use Rattle.inference.specs.SolveEntry.{counts_in, judged, judged_by, verdict, nothing_met, solve_entry}
+use Rattle.inference.specs.SolveEntry.{counts_in, judged, judged_by, room_refusal, verdict, nothing_met, solve_entry}
 use Rattle.inference.proofs.Accepted.{passed_is_searched}
 use Rattle.inference.proofs.ListsLeft.{nodes_given_back_agree, search_gives_nodes_back}
 use Rattle.inference.specs.ListsLeft.{Ends}
@@ -94,7 +93,7 @@ module _ (I : Call) (x : first_failing (solve_checks I) ≡ Ok tt) where
   by_out (missed w) h = by_best w.lent w.best
   by_out (ended c W) h =
       let k = (passed_accepted I x).ready.nodes.sorts in
-      ap (λ us. left_with I (NoRoom c) us I.typing I.measure I.choices)
+      ap (λ us. left_with I (Err (room_refusal c)) us I.typing I.measure I.choices)
       (given_back_agrees I.lengths.sorts I.lengths.entries k.sorts k.entries I.sorts W.sorts k.long h.as_long.0 h.sorts)
 
   -- The search of packed lists that say the problem comes to the call's outcome.

@@ -1,33 +1,38 @@
 -- Before and after the search, as the code goes: the sizes as they are counted; the incumbent handed out, with as many components and choices as a leaf has;
 -- the answer by whether there is an incumbent; and by the answer of the search. Assumes nothing.
 use mathlib.Core.Path.{◌≡◌, refl, sym, ap, ◌∙◌}
-use mathlib.Core.Bool.{true, false, not}
+use mathlib.Core.Bool.{Bool, true, false}
 use mathlib.Core.List.{List, [], ◌∷◌}
 use Prim.Native.Nat.{ℕ, suc}
 use native.Mathlib.Omega.{arith}
 use lib.ListN.{length}
-use borrow.Author.Tests.{not-true, not-false}
+use Rattle.std.specs.Prelude.{Some, None, Result, Ok, Err}
 use Rattle.resolved_sort.specs.declared.Counts.{Counts}
+use Rattle.resolved_sort.specs.declared.Refusal.{Refusal}
 use Rattle.resolved_sort.specs.Storage.{given_back}
+use Rattle.unification.specs.declared.Full.{Full}
+use Rattle.unification.specs.declared.Full.TheVariants.{Sorts, Nodes}
 use Rattle.unification.specs.declared.Lengths.{Lengths}
-use Rattle.inference.specs.declared.Solved.{Solved}
-use Rattle.inference.specs.declared.Solved.TheVariants.{NoRoom, NoTyping, Ambiguous, Typing}
-use Rattle.inference.specs.Constraints.{base_name_at, constraint_at, rows_from, BaseName}
+use Rattle.unification.specs.Full.{refusal_of}
+use Rattle.inference.specs.declared.Verdict.TheVariants.{NoTyping, Ambiguous, Typing}
+use Rattle.inference.specs.Constraints.{constraint_at, BaseName}
 use Rattle.inference.specs.SolveChecks.{disjunctions, components}
-use Rattle.inference.specs.SolveEntry.{nodes_given_back, cleared, typing_rows, choice_rows, written_over}
+use Rattle.inference.specs.SolveEntry.{Solved, typing_rows, choice_rows, written_over, room_refusal}
 use Rattle.inference.proofs.Members.{rows_all_left}
 use Rattle.search_state.specs.declared.Sizes.{Sizes}
-use Rattle.search_state.specs.declared.State.{State}
-use Rattle.search_state.specs.declared.Answer.{Answer}
-use Rattle.search_state.specs.declared.Answer.TheVariants.{Found, Missed, Full}
-use Rattle.search_state.specs.Inner.Memory.{problem_in, chosen_exprs, choices_of, best_sorts_at, best_measure_at, best_choices_at, candidate_of, best_of, out_of}
+use Rattle.search_state.specs.declared.Incumbent.{Incumbent}
+use Rattle.search_state.specs.declared.Search.{Search}
+use Rattle.search_state.specs.Inner.Leaves.{code_of}
+use Rattle.search_state.specs.Inner.Memory.{problem_in, chosen_exprs, choices_of, best_sorts_at, best_measure_at, best_choices_at, candidate_of, best_of}
+use Rattle.search_state.specs.Inner.Solving.{Stays, OnlySorts, SameProblem, given_of}
 use Rattle.words.specs.Words.{part}
 use Rattle.words.proofs.Parts.{length_part}
 use Rattle.solve_checks.specs.declared.Given.{Given}
 use Rattle.solve_checks.specs.Inner.Calls.{problem_call, constraint_rows}
 use Rattle.solve_outputs.specs.Inner.Begin.{sizes_of}
-use Rattle.solve_outputs.specs.Inner.Finish.{Answered, answered, Settled, settled, solve_left_by, handed_out, judged_out, settled_by, Handable}
-use Rattle.solve_outputs.specs.Finish.{solve_left}
+use Rattle.solve_outputs.specs.declared.Handout.{Handout}
+use Rattle.solve_outputs.specs.Inner.Finish.{Answered, answered, settled, solve_left_by, handed_out, Handable}
+use Rattle.solve_outputs.specs.Inner.Handing.{counts_of, told_in, left_in, handing, judging, settling, tidied}
 
 pub sizes_counted : (g : Given) (cs : List ℕ) (n d : ℕ) → n ≡ components (constraint_rows cs g.constraints)
     → d ≡ length (disjunctions (constraint_rows cs g.constraints))
@@ -61,10 +66,7 @@ length_choices (x ∷ xs) [] e = absurd (omega (arith, e))
 length_choices (x ∷ xs) (i ∷ is) e = ap suc (length_choices xs is (omega (arith, e)))
 
 -- the incumbent of the scratch, and the outputs
-module _ (sc ls ks : List ℕ) (n : ℕ) (z : Sizes) (ts ms hs : List ℕ) (h : Handable sc ls ks n z ts ms hs) where
-  abbrev names : List BaseName
-  names = rows_from (base_name_at ks) 0 n
-
+module _ (sc ls : List ℕ) (names : List BaseName) (z : Sizes) (ts ms hs : List ℕ) (h : Handable sc ls z ts ms hs) where
   many_components : z.components ≡ length (part best_measure_at z.components sc)
   many_components = sym (length_part best_measure_at z.components sc (omega (arith, h.used, h.sized.few_components)))
 
@@ -79,66 +81,63 @@ module _ (sc ls ks : List ℕ) (n : ℕ) (z : Sizes) (ts ms hs : List ℕ) (h : 
       (length_part best_choices_at z.disjunctions sc (omega (arith, h.used, h.sized.few_disjunctions)) ∙ sym many_exprs)
       ∙ many_exprs)
 
-  pub hands_out : (k : Counts) (ts' ms' hs' : List ℕ)
+  pub hands_out : (k c : Counts) → k ≡ c → (ts' ms' hs' : List ℕ)
       → ts' ≡ written_over (typing_rows (problem_in ls z) names (choices_of (chosen_exprs ls z) (part best_choices_at
       z.disjunctions sc)) 0 (part best_sorts_at z.exprs sc)) ts
       → ms' ≡ written_over (part best_measure_at z.components sc) ms
       → hs' ≡ written_over (choice_rows (choices_of (chosen_exprs ls z) (part best_choices_at z.disjunctions sc))) hs
-      → answered (Typing (record { counts = k; components = z.components; choices = z.disjunctions })) ts' ms' hs' ≡
-      handed_out (problem_in ls z) names ts ms hs k (candidate_of ls z sc false)
+      → answered (Ok (Typing (record { counts = k; components = z.components; choices = z.disjunctions }))) ts' ms' hs' ≡
+      handed_out (problem_in ls z) names ts ms hs c (candidate_of ls z sc false)
   unfolding handed_out candidate_of
-  hands_out k ts' ms' hs' a b c =
+  hands_out k c q ts' ms' hs' a b e =
       λ i. record {
-        answer = Typing (record { counts = k; components = many_components i; choices = many_choices i });
+        answer = Ok (Typing (record { counts = q i; components = many_components i; choices = many_choices i }));
         typing = a i;
         measure = b i;
-        choices = c i;
+        choices = e i;
       }
 
-  -- by whether there is an incumbent, and whether it is tied
-  module _ (st : State) (k : Counts) (e : k ≡ record { sorts = st.lengths.sorts; entries = st.lengths.entries }) where
-    abbrev judgment : Answered
-    judgment = judged_out (problem_in ls z) names ts ms hs (record {
-      sorts = st.lengths.sorts;
-      entries =
-          st.lengths.entries;
-    }) (best_of ls z sc st.best st.tied)
+-- by whether there is an incumbent, and whether it is tied
+module _ (s : Search) (names : List BaseName) (h : Handout) (k : Counts) (e : k ≡ counts_of s) where
+  pub no_incumbent : s.best ≡ None → told_in (Ok (NoTyping k)) h ≡ judging s names h
+  unfolding best_of
+  no_incumbent b = rw b (ap (λ k. told_in (Ok (NoTyping k)) h) e)
 
-    pub no_incumbent : not st.best ≡ true → answered (NoTyping k) ts ms hs ≡ judgment
-    unfolding best_of
-    no_incumbent b = rw (not-true st.best b) (ap (λ k. answered (NoTyping k) ts ms hs) e)
+  pub tied : (i : Incumbent) → s.best ≡ Some i → i.tied ≡ true → told_in (Ok (Ambiguous k)) h ≡ judging s names h
+  unfolding best_of candidate_of
+  tied i b t = rw (b, t) (ap (λ k. told_in (Ok (Ambiguous k)) h) e)
 
-    module _ (b : not st.best ≡ false) where
-      pub tied : st.tied ≡ true → answered (Ambiguous k) ts ms hs ≡ judgment
-      unfolding best_of candidate_of
-      tied t = rw (not-false st.best b, t) (ap (λ k. answered (Ambiguous k) ts ms hs) e)
-
-      pub not_tied : st.tied ≡ false → (a : Answered) → a ≡ handed_out (problem_in ls z) names ts ms hs k (candidate_of ls z sc false) → a ≡ judgment
-      unfolding best_of candidate_of handed_out
-      not_tied t a q = q ∙ rw (not-false st.best b, t) (ap (λ k. handed_out (problem_in ls z) names ts ms hs k (candidate_of ls z sc false)) e)
+  pub not_tied : (i : Incumbent) → s.best ≡ Some i → i.tied ≡ false → (a : Answered) → a ≡ handing s names h → a ≡ judging s names h
+  unfolding best_of candidate_of handed_out
+  not_tied i b t a q = q ∙ rw (b, t) refl
 
 -- by the answer of the search
-module _ (ws ns sc ls ks : List ℕ) (n : ℕ) (z : Sizes) (ts ms hs : List ℕ) (k : Lengths) (r : Answer) where
-  abbrev outcome : Answer → Settled
-  outcome r = settled_by (problem_in ls z) (rows_from (base_name_at ks) 0 n) ts ms hs k (out_of ls z ws ns sc r)
+module _ (s : Search) (names : List BaseName) (h : Handout) (k : Lengths) (r : Result Bool Full) where
+  pub had_room : (b : Bool) → r ≡ Ok b → (a : Answered) → a ≡ judging s names h → settled s.sorts.now a ≡ settling s names h k r
+  had_room b e a q = ap (settled s.sorts.now) q ∙ (either b ∙ sym (ap (settling s names h k) e))
+    where
+      either : (b : Bool) → settled s.sorts.now (judging s names h) ≡ settling s names h k (Ok b)
+      either true = refl
+      either false = refl
 
-  abbrev judges : State → Answered
-  judges st = judged_out (problem_in ls z) (rows_from (base_name_at ks) 0 n) ts ms hs (record {
-    sorts = st.lengths.sorts;
-    entries = st.lengths.entries;
-  }) (best_of ls z sc st.best st.tied)
+  refused_so : (full : Full) → refusal_of full ≡ room_refusal (code_of full)
+  unfolding room_refusal
+  refused_so Sorts = refl
+  refused_so Nodes = refl
 
-  pub found_settles : (st : State) → r ≡ Found st → (a : Answered) → a ≡ judges st → settled ws a ≡ outcome r
-  found_settles st e a q = ap (settled ws) q ∙ sym (ap outcome e)
-
-  pub missed_settles : (st : State) → r ≡ Missed st → (a : Answered) → a ≡ judges st → settled ws a ≡ outcome r
-  missed_settles st e a q = ap (settled ws) q ∙ sym (ap outcome e)
-
-  pub ended_settles : (c : ℕ) (m : Lengths) → r ≡ Full c m → (us : List ℕ) → us ≡ given_back k.sorts k.entries ws
-      → settled us (answered (NoRoom c) ts ms hs) ≡ outcome r
-  ended_settles c m e us q = ap (λ us. settled us (answered (NoRoom c) ts ms hs)) q ∙ sym (ap outcome e)
+  pub room_ended : (full : Full) → r ≡ Err full → (c : Refusal) → c ≡ refusal_of full
+      → (us : List ℕ) → us ≡ given_back k.sorts k.entries s.sorts.now → settled us (told_in (Err c) h) ≡ settling s names h k r
+  room_ended full e c q us g =
+      (λ i. settled (g i) (told_in (Err ((q ∙ refused_so full) i)) h)) ∙ sym (ap (settling s names h k) e)
 
 -- all lent memory
-pub settled_is_left : (k : Lengths) (ns bs sc : List ℕ) (s : Settled) (r : Solved) (ws' ns' sc' ts' ms' hs' : List ℕ) → settled ws' (answered r ts' ms' hs') ≡ s
-    → ns' ≡ nodes_given_back k.nodes k.arguments ns → sc' ≡ cleared sc → solve_left r ws' ns' bs sc' ts' ms' hs' ≡ solve_left_by k ns bs sc s
-settled_is_left k ns bs sc s r ws' ns' sc' ts' ms' hs' e n c = (λ i. solve_left r ws' (n i) bs (c i) ts' ms' hs') ∙ ap (solve_left_by k ns bs sc) e
+module _ (s m u : Search) (names : List BaseName) (h h' : Handout) (k : Lengths) (r : Result Bool Full) (a : Solved)
+    (only : OnlySorts s m) (t : u ≡ tidied k m) where
+  pub all_left : settled m.sorts.now (told_in a h') ≡ settling s names h k r
+      → left_in a u h' ≡ solve_left_by k s.nodes.now s.binds.now s.scratch.now (settling s names h k r)
+  all_left e =
+      ap (λ (u : Search). left_in a u h') t
+      ∙ (λ i. solve_left_by k (only i).nodes (only i).kept.binds (only i).scratch (e i))
+
+  pub problem_stays : SameProblem s u
+  problem_stays = ap given_of t ∙ ap (λ (y : Stays). y.kept.given) only

@@ -115,6 +115,10 @@ module _ (I : Call) (x : first_failing (solve_checks I) ≡ Ok tt) where
         room = l;
       }
 
+  -- the base names are all in the words lent for them
+  pub names_whole : 3 * I.rows.names ≤ length I.names
+  names_whole = passed_rows.name_words
+
   module _ (ls : List ℕ) (p : problem_in ls (sizes_of I) ≡ problem_of I) where
     suits : Suits (lent_of I) (problem_in ls (sizes_of I))
     unfolding fixed_six
@@ -170,14 +174,12 @@ module _ (I : Call) (x : first_failing (solve_checks I) ≡ Ok tt) where
           few = omega arith;
         }
 
-    pub handable : (sc : List ℕ) → length sc ≡ length I.scratch → Handable sc ls I.names I.rows.names
-        (sizes_of I) I.typing I.measure I.choices
+    pub handable : (sc : List ℕ) → length sc ≡ length I.scratch → Handable sc ls (sizes_of I) I.typing I.measure I.choices
     unfolding sizes_of
     handable sc l =
         record {
           sized = sized;
           used = omega (arith, passed_outputs.scratch, l);
-          names = passed_rows.name_words;
           typing = passed_outputs.typing;
           measure = passed_outputs.measure;
           choices = passed_outputs.choices;

@@ -2,4 +2,5 @@
 pub mod Begin
 pub mod Counts
 pub mod Finish
+pub mod Handing
 pub mod Written

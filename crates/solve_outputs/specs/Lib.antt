@@ -1,4 +1,5 @@
 -- What the solver hands out, step by step.
 pub mod Finish
+pub mod Handout
 pub mod Packed
 pub mod Inner

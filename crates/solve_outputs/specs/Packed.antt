@@ -1,23 +1,22 @@
 -- The number and the values of each answer of the solver, and both as one number for callers in other languages:
 -- document 01's number in bits 0 to 7; under 0, 17 and 18 how many sorts there are in bits 8 to 23 and how many argument
 -- entries in bits 24 to 39; under 0 how many components in bits 40 to 51 and how many choices in bits 52 to 63.
-use Rattle.std.specs.Prelude.{List, [], ◌∷◌, ℕ, ◌≤◌}
-use Rattle.entry_answers.specs.Packing.{CodeAndValues, coded, packed}
+use Rattle.std.specs.Prelude.{List, [], ◌∷◌, ℕ, ◌≤◌, Ok, Err}
+use Rattle.entry_answers.specs.Packing.{CodeAndValues, coded, packed, AnswerWithin}
 use Rattle.resolved_sort.specs.declared.Counts.{Counts}
 use Rattle.resolved_sort.specs.Storage.{max_sorts, max_entries}
-use Rattle.resolved_sort.specs.Checks.{Numbered}
-use Rattle.inference.specs.declared.Solved.{Solved}
-use Rattle.inference.specs.declared.Solved.TheVariants.{Refused, NoRoom, NoTyping, Ambiguous, Typing}
+use Rattle.resolved_sort.specs.Checks.{code_of}
+use Rattle.inference.specs.declared.Verdict.{Verdict}
+use Rattle.inference.specs.declared.Verdict.TheVariants.{NoTyping, Ambiguous, Typing}
 use Rattle.inference.specs.Constraints.{max_constraints, max_components}
-use Rattle.inference.specs.SolveEntry.{SolveLeft, code_solved}
+use Rattle.inference.specs.SolveEntry.{Solved, SolveLeft, code_solved}
 
 -- the counts of sorts and entries after the call; of a typing its components and choices too
 abbrev pub solved_values : Solved → List ℕ
-solved_values (Refused c) = []
-solved_values (NoRoom c) = []
-solved_values (NoTyping k) = k.sorts ∷ k.entries ∷ []
-solved_values (Ambiguous k) = k.sorts ∷ k.entries ∷ []
-solved_values (Typing o) = o.counts.sorts ∷ o.counts.entries ∷ o.components ∷ o.choices ∷ []
+solved_values (Err r) = []
+solved_values (Ok (NoTyping k)) = k.sorts ∷ k.entries ∷ []
+solved_values (Ok (Ambiguous k)) = k.sorts ∷ k.entries ∷ []
+solved_values (Ok (Typing o)) = o.counts.sorts ∷ o.counts.entries ∷ o.components ∷ o.choices ∷ []
 
 -- document 01's number, and these values
 abbrev pub coded_solved : Solved → CodeAndValues
@@ -35,12 +34,13 @@ pub record CountsWithin (k : Counts) : Type 0 where
   pub sorts : k.sorts ≤ max_sorts
   pub entries : k.entries ≤ max_entries
 
+abbrev pub VerdictWithin : Verdict → Type 0
+VerdictWithin (NoTyping k) = CountsWithin k
+VerdictWithin (Ambiguous k) = CountsWithin k
+VerdictWithin (Typing o) = CountsWithin o.counts × (o.components ≤ max_components) × (o.choices ≤ max_constraints)
+
 abbrev pub SolvedWithin : Solved → Type 0
-SolvedWithin (Refused c) = Numbered c
-SolvedWithin (NoRoom c) = (15 ≤ c) × (c ≤ 16)
-SolvedWithin (NoTyping k) = CountsWithin k
-SolvedWithin (Ambiguous k) = CountsWithin k
-SolvedWithin (Typing o) = CountsWithin o.counts × (o.components ≤ max_components) × (o.choices ≤ max_constraints)
+SolvedWithin = AnswerWithin (λ r. (1 ≤ code_of r) × (code_of r ≤ 16)) VerdictWithin
 
 -- the packed answer, and all lent memory
 pub record PackedSolve : Type 0 where

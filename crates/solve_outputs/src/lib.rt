@@ -2,7 +2,7 @@
 // scratch; what it clears, answers and leaves.
 #![tactic(auto)]
 
-ghost use Rattle.std.specs.Prelude.{◌≡◌, [], List, ◌+◌, ◌*◌, ◌≤◌, ℕ, length, drop, false};
+ghost use Rattle.std.specs.Prelude.{◌≡◌, [], ◌+◌, ◌*◌, ◌≤◌, length, drop, false, Ok};
 ghost use Rattle.std.proofs.Math.Option.{some};
 ghost use Rattle.std.proofs.lemmas.List.Edits.{sets};
 ghost use Rattle.unification.specs.Nodes.{max_nodes, max_node_entries, full_nodes};
@@ -10,44 +10,56 @@ ghost use Rattle.inference.specs.Constraints.{max_constraints, max_components, n
 ghost use Rattle.inference.specs.Constraints.{rows_from};
 ghost use Rattle.inference.specs.Names.{overload_in, name_kind, name_sort};
 ghost use Rattle.inference.specs.SolveChecks.{typing_words, choice_words, disjunction_for};
-ghost use Rattle.inference.specs.SolveEntry.{nodes_given_back, cleared, typing_rows, choice_rows, written_over};
+ghost use Rattle.inference.specs.SolveEntry.{nodes_given_back, typing_rows, choice_rows, written_over};
 ghost use Rattle.search_state.specs.Inner.Memory.{overloads_at, problem_in, rest_from, chosen_exprs, choices_of};
 ghost use Rattle.search_state.specs.Inner.Memory.{best_sorts_at, best_measure_at, best_choices_at, scratch_used};
-ghost use Rattle.search_state.specs.Inner.Memory.{candidate_of, best_of, out_of};
-ghost use Rattle.words.specs.Words.{part};
+ghost use Rattle.search_state.specs.Inner.Memory.{candidate_of};
 ghost use Rattle.search_state.specs.Inner.Searching.{Sized};
+ghost use Rattle.search_state.specs.Inner.Solving.{OnlySorts, SameProblem};
+ghost use Rattle.words.specs.Words.{part};
 ghost use Rattle.solve_outputs.specs.Inner.Written.{walked, choice_by, named_rows, no_name, named, base_named};
 ghost use Rattle.solve_outputs.specs.Inner.Written.{name_by_of, chosen_named};
-ghost use Rattle.inference.specs.declared.Solved.TheVariants.{Typing};
+ghost use Rattle.inference.specs.declared.Verdict.TheVariants.{Typing};
 ghost use Rattle.solve_checks.specs.Inner.Calls.{problem_call};
 ghost use Rattle.solve_checks.specs.Call.{lengths_of};
-ghost use Rattle.solve_outputs.specs.Inner.Begin.{CountsFit, RowsFit, sizes_of, no_incumbent, nothing_taken};
-ghost use Rattle.solve_outputs.specs.Packed.{pack_solved, CountsWithin, SolvedWithin};
+ghost use Rattle.solve_outputs.specs.Inner.Begin.{CountsFit, RowsFit, sizes_of, nothing_taken};
+ghost use Rattle.solve_outputs.specs.Packed.{pack_solved, CountsWithin, VerdictWithin, SolvedWithin};
 ghost use Rattle.solve_outputs.specs.Inner.Counts.{pack_counts};
-ghost use Rattle.solve_outputs.specs.Inner.Finish.{answered, settled, solve_left_by, handed_out, judged_out};
-ghost use Rattle.solve_outputs.specs.Inner.Finish.{settled_by, Handable, SortsReturnable, NodesReturnable};
-ghost use Rattle.solve_outputs.specs.Finish.{solve_left};
+ghost use Rattle.solve_outputs.specs.Inner.Finish.{solve_left_by, settled, SortsReturnable, NodesReturnable};
+ghost use Rattle.solve_outputs.specs.Inner.Handing.{names_in, told_in, left_in, handing, judging, settling, tidied};
+ghost use Rattle.solve_outputs.specs.Inner.Handing.{CanHandOut};
+ghost use Rattle.solve_outputs.specs.Handout.{SameHandout};
 
+use entry_answers::pack;
 use infer_nodes::counts_of;
 use inference::{
-    CHOICE_WORDS, Constraint, ExprId, NAME_WORDS, NameTarget, OVERLOAD_WORDS, Outputs, Solved,
-    TYPING_WORDS,
+    CHOICE_WORDS, Constraint, ExprId, NAME_WORDS, NameTarget, OVERLOAD_WORDS, Outputs,
+    TYPING_WORDS, Verdict,
 };
 use problem_words::{constraint_at, name_target};
-use resolved_sort::{Counts, ROW_WORDS, Run, SortId};
+use resolved_sort::{Counts, ROW_WORDS, Refusal, Run, SortId};
 use search_state::{
-    Answer, BEST_CHOICES_AT, BEST_MEASURE_AT, BEST_SORTS_AT, Branch, OVERLOADS_AT, Sizes, State,
+    BEST_CHOICES_AT, BEST_MEASURE_AT, BEST_SORTS_AT, Branch, OVERLOADS_AT, Search, Sizes,
 };
 use solve_checks::{Given, components, disjunction_count};
 use sort_interner::give_back;
-use unification::{Lengths, NODE_ENTRIES_AT};
-use words::{BIT_8, BIT_24, BIT_40, BIT_52, copy, put, word};
+use unification::{Full, Lengths, NODE_ENTRIES_AT};
+use words::{BIT_8, BIT_24, BIT_40, BIT_52, clear, copy, put, word};
 
-// All words set to zero.
-fn clear(words: &mut [u16])
-    ensures { words.new ≡ cleared words.old }
-{
-    words.fill(0);
+// What a call hands out: the rows of its expressions, the measure, and the rows of its choices.
+#[derive(Drop)]
+pub struct Handout<'a> {
+    pub typing: &'a mut [u16],
+    pub measure: &'a mut [u16],
+    pub choices: &'a mut [u16],
+}
+
+// The base names of a call, which are all in the words lent for them.
+#[derive(Clone, Copy)]
+pub struct BaseNames<'a> {
+    pub words: &'a [u16],
+    pub count: usize,
+    ghost whole: { name_words * count ≤ length words.now },
 }
 
 // Zero past the nodes and argument entries that the call began with, and these as they are.
@@ -55,25 +67,26 @@ fn clear_nodes(nodes: &mut [u16], node_count: u16, entry_count: u16)
     requires { (node_count ≤ max_nodes) × (entry_count ≤ max_node_entries) × (full_nodes ≤ length nodes.old) }
     ensures { nodes.new ≡ nodes_given_back node_count entry_count nodes.old }
 {
-    words::clear(nodes, ROW_WORDS * (node_count as usize), NODE_ENTRIES_AT);
+    clear(nodes, ROW_WORDS * (node_count as usize), NODE_ENTRIES_AT);
     let end = nodes.len();
-    words::clear(nodes, NODE_ENTRIES_AT + (entry_count as usize), end);
+    clear(nodes, NODE_ENTRIES_AT + (entry_count as usize), end);
 }
 
 // The measure handed out.
-fn write_measure(measure: &mut [u16], scratch: &[u16], sizes: Sizes)
-    requires { (sizes.components ≤ max_components)
-        × (sizes.components ≤ length measure.old)
-        × (scratch_used ≤ length scratch.now) }
+fn write_measure(measure: &mut [u16], search: &Search<'_>)
+    requires { (search.now.sizes.components ≤ max_components)
+        × (search.now.sizes.components ≤ length measure.old)
+        × (scratch_used ≤ length search.now.scratch.now) }
     ensures { measure.new
-        ≡ written_over (part best_measure_at sizes.components scratch.now) measure.old }
+        ≡ written_over (part best_measure_at search.now.sizes.components search.now.scratch.now)
+        measure.old }
 {
     copy(
         measure,
         0,
-        scratch,
+        search.scratch,
         BEST_MEASURE_AT,
-        sizes.components as usize,
+        search.sizes.components as usize,
     );
 }
 
@@ -99,40 +112,29 @@ fn write_choice(choices: &mut [u16], scratch: &[u16], says: Constraint, k: u16) 
 }
 
 // The choices handed out, in the order of the constraints.
-fn write_choices(choices: &mut [u16], scratch: &[u16], lists: &[u16], sizes: Sizes)
-    requires { Sized (problem_in lists.now sizes) sizes
-        × (choice_words * sizes.disjunctions ≤ length choices.old)
-        × (scratch_used ≤ length scratch.now) }
+fn write_choices(choices: &mut [u16], search: &Search<'_>)
+    requires { Sized (problem_in search.now.lists.now search.now.sizes) search.now.sizes
+        × (choice_words * search.now.sizes.disjunctions ≤ length choices.old)
+        × (scratch_used ≤ length search.now.scratch.now) }
     ensures { choices.new
-        ≡ written_over (choice_rows (choices_of (chosen_exprs lists.now sizes)
-        (part best_choices_at sizes.disjunctions scratch.now)))
+        ≡ written_over (choice_rows (choices_of (chosen_exprs search.now.lists.now search.now.sizes)
+        (part best_choices_at search.now.sizes.disjunctions search.now.scratch.now)))
         choices.old }
 {
     let mut k: u16 = 0;
-    for i in 0..sizes.constraints {
-        k = write_choice(choices, scratch, constraint_at(lists, i), k);
+    for i in 0..search.sizes.constraints {
+        k = write_choice(choices, search.scratch, constraint_at(search.lists, i), k);
     }
 }
 
-// The kind of a name, as it is handed out.
-fn kind_word(name: NameTarget) -> u16
-    ensures { result ≡ name_kind (some name) }
+// The kind and the sort of a name, as they are handed out. Only an operation has a sort.
+fn name_words(name: NameTarget) -> (u16, u16)
+    ensures { result ≡ (name_kind (some name), name_sort (some name)) }
 {
     match name {
-        NameTarget::Variable => 1,
-        NameTarget::Op(_) => 2,
-        NameTarget::Builtin => 3,
-    }
-}
-
-// The sort of a name, as it is handed out. Only an operation has one.
-fn sort_word(name: NameTarget) -> u16
-    ensures { result ≡ name_sort (some name) }
-{
-    match name {
-        NameTarget::Variable => 0,
-        NameTarget::Op(sort) => sort.0,
-        NameTarget::Builtin => 0,
+        NameTarget::Variable => (1, 0),
+        NameTarget::Op(sort) => (2, sort.0),
+        NameTarget::Builtin => (3, 0),
     }
 }
 
@@ -142,8 +144,9 @@ fn put_name(typing: &mut [u16], exprs: u16, expr: ExprId, name: NameTarget)
 {
     if expr.0 < exprs {
         let row = TYPING_WORDS * (expr.0 as usize);
-        put(typing, row + 1, kind_word(name));
-        put(typing, row + 2, sort_word(name));
+        let (kind, sort) = name_words(name);
+        put(typing, row + 1, kind);
+        put(typing, row + 2, sort);
     }
 }
 
@@ -162,21 +165,15 @@ fn write_sorts(typing: &mut [u16], scratch: &[u16], exprs: u16)
 }
 
 // The base names, from the last to the first.
-fn write_base_names(typing: &mut [u16], names: &[u16], name_count: usize, exprs: u16)
-    requires { name_words * name_count ≤ length names.now }
-    ensures { typing.new
-        ≡ base_named exprs (rows_from (base_name_at names.now) 0 name_count) typing.old }
+fn write_base_names(typing: &mut [u16], names: &BaseNames<'_>, exprs: u16)
+    ensures { typing.new ≡ base_named exprs (names_in names.now.words.now names.now.count) typing.old }
 {
-    for i in (0..name_count).rev() {
+    for i in (0..names.count).rev() {
         let row = NAME_WORDS * i;
-        let kind = word(names, row + 1);
-        let sort = word(names, row + 2);
-        put_name(
-            typing,
-            exprs,
-            ExprId(word(names, row)),
-            name_target(kind, sort),
-        );
+        let expr = ExprId(word(names.words, row));
+        let kind = word(names.words, row + 1);
+        let sort = word(names.words, row + 2);
+        put_name(typing, exprs, expr, name_target(kind, sort));
     }
 }
 
@@ -197,19 +194,12 @@ fn chosen_target(lists: &[u16], overloads: u16, run: Run, i: u16) -> NameTarget
 
 // Of a disjunction the name that its choice gives, which is the last of k. How many come before it.
 #[tactic(auto, unfolding(crate::specs::Inner::Written::name_by_of))]
-fn name_choice(
-    typing: &mut [u16],
-    scratch: &[u16],
-    lists: &[u16],
-    sizes: Sizes,
-    says: Constraint,
-    k: u16,
-) -> u16
+fn name_choice(typing: &mut [u16], search: &Search<'_>, says: Constraint, k: u16) -> u16
     requires { (length (disjunction_for says []) ≤ k) × (k ≤ max_constraints) }
     ensures { walked typing.new result
-        ≡ name_by_of sizes.exprs
-        (rows_from (overload_at (drop overloads_at lists.now)) 0 sizes.overloads)
-        scratch.now says typing.old k }
+        ≡ name_by_of search.now.sizes.exprs
+        (rows_from (overload_at (drop overloads_at search.now.lists.now)) 0 search.now.sizes.overloads)
+        search.now.scratch.now says typing.old k }
 {
     match says {
         Constraint::Disjunction {
@@ -218,13 +208,9 @@ fn name_choice(
             ..
         } => {
             let before = k - 1;
-            let i = word(scratch, BEST_CHOICES_AT + (before as usize));
-            put_name(
-                typing,
-                sizes.exprs,
-                expr,
-                chosen_target(lists, sizes.overloads, disjuncts, i),
-            );
+            let i = word(search.scratch, BEST_CHOICES_AT + (before as usize));
+            let name = chosen_target(search.lists, search.sizes.overloads, disjuncts, i);
+            put_name(typing, search.sizes.exprs, expr, name);
             before
         }
         _ => k,
@@ -232,43 +218,34 @@ fn name_choice(
 }
 
 // The names that the choices give, from the last to the first.
-fn write_chosen_names(typing: &mut [u16], scratch: &[u16], lists: &[u16], sizes: Sizes)
-    requires { Sized (problem_in lists.now sizes) sizes }
+fn write_chosen_names(typing: &mut [u16], search: &Search<'_>)
+    requires { Sized (problem_in search.now.lists.now search.now.sizes) search.now.sizes }
     ensures { typing.new
-        ≡ chosen_named sizes.exprs
-        (rows_from (overload_at (drop overloads_at lists.now)) 0 sizes.overloads)
-        scratch.now (rest_from lists.now sizes 0) 0 typing.old }
+        ≡ chosen_named search.now.sizes.exprs
+        (rows_from (overload_at (drop overloads_at search.now.lists.now)) 0 search.now.sizes.overloads)
+        search.now.scratch.now (rest_from search.now.lists.now search.now.sizes 0) 0 typing.old }
 {
-    let mut k = sizes.disjunctions;
-    for i in (0..sizes.constraints).rev() {
-        k = name_choice(typing, scratch, lists, sizes, constraint_at(lists, i), k);
+    let mut k = search.sizes.disjunctions;
+    for i in (0..search.sizes.constraints).rev() {
+        k = name_choice(typing, search, constraint_at(search.lists, i), k);
     }
 }
 
 // The typing handed out: of each expression its sort, and its name, by a choice rather than a base name.
-fn write_typing(
-    typing: &mut [u16],
-    scratch: &[u16],
-    lists: &[u16],
-    names: &[u16],
-    name_count: usize,
-    sizes: Sizes,
-)
-    requires { Sized (problem_in lists.now sizes) sizes
-        × (typing_words * sizes.exprs ≤ length typing.old)
-        × (name_words * name_count ≤ length names.now)
-        × (scratch_used ≤ length scratch.now) }
+fn write_typing(typing: &mut [u16], search: &Search<'_>, names: &BaseNames<'_>)
+    requires { Sized (problem_in search.now.lists.now search.now.sizes) search.now.sizes
+        × (typing_words * search.now.sizes.exprs ≤ length typing.old)
+        × (scratch_used ≤ length search.now.scratch.now) }
     ensures { typing.new
-        ≡ written_over (typing_rows (problem_in lists.now sizes)
-        (rows_from (base_name_at names.now) 0 name_count)
-        (choices_of (chosen_exprs lists.now sizes)
-        (part best_choices_at sizes.disjunctions scratch.now))
-        0 (part best_sorts_at sizes.exprs scratch.now))
+        ≡ written_over (typing_rows (problem_in search.now.lists.now search.now.sizes) (names_in names.now.words.now names.now.count)
+        (choices_of (chosen_exprs search.now.lists.now search.now.sizes)
+        (part best_choices_at search.now.sizes.disjunctions search.now.scratch.now))
+        0 (part best_sorts_at search.now.sizes.exprs search.now.scratch.now))
         typing.old }
 {
-    write_sorts(typing, scratch, sizes.exprs);
-    write_base_names(typing, names, name_count, sizes.exprs);
-    write_chosen_names(typing, scratch, lists, sizes);
+    write_sorts(typing, search.scratch, search.sizes.exprs);
+    write_base_names(typing, names, search.sizes.exprs);
+    write_chosen_names(typing, search);
 }
 
 // How much of the lent lists is in use at first.
@@ -305,17 +282,6 @@ pub fn sizes_of(constraints: &[u16], given: Given) -> Sizes
     }
 }
 
-// No incumbent yet.
-pub fn no_incumbent(lengths: Lengths) -> State
-    ensures { result ≡ no_incumbent lengths }
-{
-    State {
-        lengths,
-        best: false,
-        tied: false,
-    }
-}
-
 // A branch that has taken on nothing.
 pub fn nothing_taken() -> Branch
     ensures { result ≡ nothing_taken }
@@ -328,153 +294,89 @@ pub fn nothing_taken() -> Branch
 }
 
 // Hands the incumbent out.
-fn hand_out(
-    typing: &mut [u16],
-    measure: &mut [u16],
-    choices: &mut [u16],
-    scratch: &[u16],
-    lists: &[u16],
-    names: &[u16],
-    name_count: usize,
-    sizes: Sizes,
-    counts: Counts,
-) -> Solved
-    requires { Handable scratch.now lists.now names.now name_count sizes
-        typing.old measure.old choices.old }
-    ensures { answered result typing.new measure.new choices.new
-        ≡ handed_out (problem_in lists.now sizes)
-        (rows_from (base_name_at names.now) 0 name_count)
-        typing.old measure.old choices.old counts
-        (candidate_of lists.now sizes scratch.now false) }
+fn hand_out(handout: &mut Handout<'_>, search: &Search<'_>, names: &BaseNames<'_>) -> Outputs
+    requires { CanHandOut search.now handout.old }
+    ensures says { told_in (Ok (Typing result)) handout.new ≡ handing search.now (names_in names.now.words.now names.now.count) handout.old }
+    ensures same_reference { SameHandout handout.old handout.new }
 {
-    write_typing(typing, scratch, lists, names, name_count, sizes);
-    write_measure(measure, scratch, sizes);
-    write_choices(choices, scratch, lists, sizes);
-    Solved::Typing(Outputs {
-        counts,
-        components: sizes.components,
-        choices: sizes.disjunctions,
-    })
+    write_typing(handout.typing, search, names);
+    write_measure(handout.measure, search);
+    write_choices(handout.choices, search);
+    Outputs {
+        counts: counts_of(search.lengths),
+        components: search.sizes.components,
+        choices: search.sizes.disjunctions,
+    }
 }
 
-// The answer after a search that did not end for want of room: by whether there is an incumbent,
-// and whether it is tied.
-fn judge(
-    typing: &mut [u16],
-    measure: &mut [u16],
-    choices: &mut [u16],
-    scratch: &[u16],
-    lists: &[u16],
-    names: &[u16],
-    name_count: usize,
-    sizes: Sizes,
-    st: State,
-) -> Solved
-    requires { Handable scratch.now lists.now names.now name_count sizes
-        typing.old measure.old choices.old }
-    ensures { answered result typing.new measure.new choices.new
-        ≡ judged_out (problem_in lists.now sizes)
-        (rows_from (base_name_at names.now) 0 name_count)
-        typing.old measure.old choices.old
-        (record { sorts = st.lengths.sorts; entries = st.lengths.entries })
-        (best_of lists.now sizes scratch.now st.best st.tied) }
+// The verdict of a search that had room: by whether there is an incumbent, and whether it is tied.
+fn judge(handout: &mut Handout<'_>, search: &Search<'_>, names: &BaseNames<'_>) -> Verdict
+    requires { CanHandOut search.now handout.old }
+    ensures says { told_in (Ok result) handout.new ≡ judging search.now (names_in names.now.words.now names.now.count) handout.old }
+    ensures same_reference { SameHandout handout.old handout.new }
 {
-    let lengths = st.lengths;
-    let counts = counts_of(lengths);
-    if !st.best {
-        return Solved::NoTyping(counts);
+    let counts = counts_of(search.lengths);
+    let Some(incumbent) = search.best else {
+        return Verdict::NoTyping(counts);
+    };
+    if incumbent.tied {
+        return Verdict::Ambiguous(counts);
     }
-    if st.tied {
-        return Solved::Ambiguous(counts);
-    }
-    hand_out(
-        typing, measure, choices, scratch, lists, names, name_count, sizes, counts,
-    )
+    Verdict::Typing(hand_out(handout, search, names))
 }
 
-// The answer after the search; where room ended, sorts made are given back.
+// The answer after the search; where room ended, sorts made are given back to the counts at entry.
 fn settle(
-    sorts: &mut [u16],
-    typing: &mut [u16],
-    measure: &mut [u16],
-    choices: &mut [u16],
-    scratch: &[u16],
-    lists: &[u16],
-    names: &[u16],
-    name_count: usize,
-    sizes: Sizes,
-    lengths: Lengths,
-    answer: Answer,
-) -> Solved
-    requires { Handable scratch.now lists.now names.now name_count sizes
-        typing.old measure.old choices.old
-        × SortsReturnable sorts.old lengths }
-    ensures { (ns : List ℕ)
-        → settled sorts.new
-        (answered result typing.new measure.new choices.new)
-        ≡ settled_by (problem_in lists.now sizes)
-        (rows_from (base_name_at names.now) 0 name_count)
-        typing.old measure.old choices.old lengths
-        (out_of lists.now sizes sorts.old ns scratch.now answer) }
+    search: &mut Search<'_>,
+    handout: &mut Handout<'_>,
+    names: &BaseNames<'_>,
+    entry: Lengths,
+    found: Result<bool, Full>,
+) -> Result<Verdict, Refusal>
+    requires { CanHandOut search.old handout.old × SortsReturnable search.old.sorts.now entry }
+    ensures says { settled search.new.sorts.now (told_in result handout.new)
+        ≡ settling search.old (names_in names.now.words.now names.now.count) handout.old entry found }
+    ensures kept { OnlySorts search.old search.new }
+    ensures same_reference { SameHandout handout.old handout.new }
 {
-    match answer {
-        Answer::Found(st) => judge(
-            typing, measure, choices, scratch, lists, names, name_count, sizes, st,
-        ),
-        Answer::Missed(st) => judge(
-            typing, measure, choices, scratch, lists, names, name_count, sizes, st,
-        ),
-        Answer::Full(code, _) => {
-            give_back(sorts, lengths.sorts as usize, lengths.entries as usize);
-            Solved::NoRoom(code)
+    match found {
+        Ok(_) => Ok(judge(handout, search, names)),
+        Err(full) => {
+            give_back(search.sorts, entry.sorts as usize, entry.entries as usize);
+            Err(full.into())
         }
     }
 }
 
 // Zero past the nodes that the call began with, and in the scratch.
-fn tidy(nodes: &mut [u16], scratch: &mut [u16], lengths: Lengths)
-    requires { NodesReturnable nodes.old lengths }
-    ensures { (nodes.new ≡ nodes_given_back lengths.nodes lengths.arguments nodes.old)
-        × (scratch.new ≡ cleared scratch.old) }
+fn tidy(search: &mut Search<'_>, entry: Lengths)
+    requires { NodesReturnable search.old.nodes.now entry }
+    ensures { search.new ≡ tidied entry search.old }
 {
-    clear_nodes(nodes, lengths.nodes, lengths.arguments);
-    clear(scratch);
+    clear_nodes(search.nodes, entry.nodes, entry.arguments);
+    search.scratch.fill(0);
 }
 
-// What the entry answers and leaves after the search, whatever the bindings are.
+// What the entry answers and leaves after the search, of a call that began with so much of its lists.
 pub fn finish(
-    sorts: &mut [u16],
-    nodes: &mut [u16],
-    scratch: &mut [u16],
-    typing: &mut [u16],
-    measure: &mut [u16],
-    choices: &mut [u16],
-    lists: &[u16],
-    names: &[u16],
-    name_count: usize,
-    sizes: Sizes,
-    lengths: Lengths,
-    answer: Answer,
-) -> Solved
-    requires { Handable scratch.old lists.now names.now name_count sizes
-        typing.old measure.old choices.old
-        × SortsReturnable sorts.old lengths
-        × NodesReturnable nodes.old lengths }
-    ensures { (bs : List ℕ)
-        → solve_left result sorts.new nodes.new bs
-        scratch.new typing.new measure.new choices.new
-        ≡ solve_left_by lengths nodes.old bs scratch.old
-        (settled_by (problem_in lists.now sizes)
-        (rows_from (base_name_at names.now) 0 name_count)
-        typing.old measure.old choices.old lengths
-        (out_of lists.now sizes sorts.old nodes.old scratch.old
-        answer)) }
+    search: &mut Search<'_>,
+    handout: &mut Handout<'_>,
+    names: &BaseNames<'_>,
+    entry: Lengths,
+    found: Result<bool, Full>,
+) -> Result<Verdict, Refusal>
+    requires { CanHandOut search.old handout.old
+        × SortsReturnable search.old.sorts.now entry
+        × NodesReturnable search.old.nodes.now entry }
+    ensures says { left_in result search.new handout.new
+        ≡ solve_left_by entry search.old.nodes.now search.old.binds.now search.old.scratch.now
+        (settling search.old (names_in names.now.words.now names.now.count) handout.old entry found) }
+    ensures same_problem { SameProblem search.old search.new }
+    ensures same_handout { SameHandout handout.old handout.new }
 {
-    let solved = settle(
-        sorts, typing, measure, choices, scratch, lists, names, name_count, sizes, lengths, answer,
-    );
-    tidy(nodes, scratch, lengths);
-    solved
+    let answer = settle(search, handout, names, entry, found);
+    tidy(search, entry);
+    answer
 }
 
 // Sorts and entries as part of the packed answer.
@@ -485,25 +387,24 @@ fn pack_counts(counts: Counts) -> u64
     (counts.sorts as u64) * BIT_8 + (counts.entries as u64) * BIT_24
 }
 
-// All counts of a typing.
-fn pack_outputs(outputs: Outputs) -> u64
-    requires { SolvedWithin (Typing outputs) }
-    ensures { result ≡ pack_solved (Typing outputs) }
+// A verdict's number and its counts.
+fn pack_verdict(verdict: Verdict) -> u64
+    requires { VerdictWithin verdict }
+    ensures { result ≡ pack_solved (Ok verdict) }
 {
-    let counts = outputs.counts;
-    pack_counts(counts) + (outputs.components as u64) * BIT_40 + (outputs.choices as u64) * BIT_52
+    match verdict {
+        Verdict::Typing(outputs) => pack_counts(outputs.counts)
+            + (outputs.components as u64) * BIT_40
+            + (outputs.choices as u64) * BIT_52,
+        Verdict::NoTyping(counts) | Verdict::Ambiguous(counts) => verdict.code() as u64
+            + pack_counts(counts),
+    }
 }
 
 // The code of document 01 and the counts of an answer as one number, for callers in other languages.
-pub fn pack_solved(answer: Solved) -> u64
+pub fn pack_solved(answer: Result<Verdict, Refusal>) -> u64
     requires { SolvedWithin answer }
     ensures { result ≡ pack_solved answer }
 {
-    match answer {
-        Solved::Refused(refusal) => refusal.code() as u64,
-        Solved::NoRoom(code) => code as u64,
-        Solved::NoTyping(counts) => 17 + pack_counts(counts),
-        Solved::Ambiguous(counts) => 18 + pack_counts(counts),
-        Solved::Typing(o) => pack_outputs(o),
-    }
+    pack(answer.map(pack_verdict))
 }

@@ -12,7 +12,7 @@ use lib.Dec.{leb, ltb}
 use lib.ListN.{length, get_or, take, length-take}
 use lib.Seq.{get_or-take}
 use borrow.Author.Tests.{leb-true, leb-false, le-leb}
-use Rattle.std.specs.Prelude.{Err}
+use Rattle.std.specs.Prelude.{Ok, Err}
 use Rattle.resolved_sort.specs.declared.Refusal.TheVariants.{NotLent, BadExpression, BadConstraint, TwoForOne, BadJoin, NotInList, TooShort}
 use Rattle.resolved_sort.specs.Checks.{Check, first_failing, all_below, sort_row_checks, Tested}
 use Rattle.resolved_sort.specs.Entries.{refused_or}
@@ -22,7 +22,7 @@ use Rattle.unification.specs.Making.{Lent}
 use Rattle.inference.specs.declared.Overload.{Overload}
 use Rattle.inference.specs.declared.Constraint.{Constraint}
 use Rattle.inference.specs.declared.Constraint.TheVariants.{Sub, Lit, Disjunction, Comprehension, Join}
-use Rattle.inference.specs.declared.Solved.TheVariants.{Typing}
+use Rattle.inference.specs.declared.Verdict.TheVariants.{Typing}
 use Rattle.inference.specs.Constraints.{max_overloads, max_components, target, constraint_at, overload_at, Problem}
 use Rattle.inference.specs.Search.{Candidate, Out, found, missed, ended, solve}
 use Rattle.inference.specs.SolveChecks.{Call, placed, listed, given, disjunctions, no_two, keys, joins_fine}
@@ -158,12 +158,12 @@ module _ (g : Given) (ws ns bs xs ks cs ss sc ts ms hs : List ℕ) where
     by_tie : (W : Lent) (c : Candidate) (b : Bool) → judged_by (call os) W c b ≡ judged_by (call os') W c b
     by_tie W c true = refl
     by_tie W c false =
-        ap (λ (P : Problem). left_with (call os) (Typing (record {
+        ap (λ (P : Problem). left_with (call os) (Ok (Typing (record {
           counts = counts_in W;
           components = length
               c.measure;
           choices = length c.choices;
-        })) W.sorts
+        }))) W.sorts
         (written_over (typing_rows P (base_names_of (call os)) c.choices 0 c.sorts) ts) (written_over c.measure
         ms) (written_over (choice_rows c.choices) hs))
         problem_same

@@ -4,10 +4,9 @@ use mathlib.Core.Path.{◌≡◌, ap, ◌∙◌}
 use mathlib.Core.List.{List}
 use Prim.Native.Nat.{ℕ}
 use lib.ListN.{take}
-use Rattle.inference.specs.declared.Solved.{Solved}
 use Rattle.inference.specs.Constraints.{max_overloads}
 use Rattle.inference.specs.SolveChecks.{Call}
-use Rattle.inference.specs.SolveEntry.{solve_entry}
+use Rattle.inference.specs.SolveEntry.{Solved, solve_entry}
 use Rattle.solve_checks.specs.declared.Given.{Given}
 use Rattle.solve_checks.specs.Call.{call_of}
 use Rattle.solve_outputs.specs.Finish.{solve_left}

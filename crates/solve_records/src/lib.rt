@@ -7,16 +7,17 @@ ghost use Rattle.std.proofs.lemmas.List.Edits.{sets};
 ghost use Rattle.inference.specs.Constraints.{max_overloads, overload_words};
 ghost use Rattle.inference.specs.SolveEntry.{solve_entry};
 ghost use Rattle.solve_checks.specs.Call.{call_of};
-ghost use Rattle.solve_outputs.specs.Finish.{solve_left};
+ghost use Rattle.solve_outputs.specs.Handout.{call_with, solve_left_with, SameHandout};
 ghost use Rattle.solve_outputs.specs.Packed.{packed_solve, pack_solve_left};
 ghost use Rattle.solve_entries.specs.Given.{given_of};
 ghost use Rattle.solve_records.specs.Records.{words_of, record_words};
 ghost use Rattle.solve_records.specs.Inner.Records.{record_at, words_from, unpacked, words_of_count};
 
-use inference::{MAX_OVERLOADS, OVERLOAD_WORDS, Solved};
-use resolved_sort::SortId;
+use inference::{MAX_OVERLOADS, OVERLOAD_WORDS, Verdict};
+use resolved_sort::{Refusal, SortId};
 use solve_checks::Given;
 use solve_entries::{solve, sort_solve};
+use solve_outputs::Handout;
 use unification::InferSortId;
 use words::put;
 
@@ -101,16 +102,12 @@ fn solve_unpacked(
     sources: &[u16],
     given: Given,
     scratch: &mut [u16],
-    typing: &mut [u16],
-    measure: &mut [u16],
-    choices: &mut [u16],
-) -> Solved
-    ensures { solve_left result sorts.new nodes.new binds.new scratch.new
-        typing.new measure.new choices.new
-        ≡ solve_entry (call_of given sorts.old nodes.old binds.old
-        exprs.now names.now constraints.now (take (words_of_count n) words)
-        sources.now scratch.old typing.old measure.old
-        choices.old) }
+    handout: &mut Handout<'_>,
+) -> Result<Verdict, Refusal>
+    ensures says { solve_left_with result sorts.new nodes.new binds.new scratch.new handout.new
+        ≡ solve_entry (call_with given sorts.old nodes.old binds.old exprs.now names.now constraints.now
+        (take (words_of_count n) words) sources.now scratch.old handout.old) }
+    ensures same_reference { SameHandout handout.old handout.new }
 {
     let used = OVERLOAD_WORDS * at_most(n);
     solve(
@@ -124,9 +121,7 @@ fn solve_unpacked(
         sources,
         given,
         scratch,
-        typing,
-        measure,
-        choices,
+        handout,
     )
 }
 
@@ -145,16 +140,12 @@ pub fn solve_records(
     sources: &[u16],
     given: Given,
     scratch: &mut [u16],
-    typing: &mut [u16],
-    measure: &mut [u16],
-    choices: &mut [u16],
-) -> Solved
-    ensures { solve_left result sorts.new nodes.new binds.new scratch.new
-        typing.new measure.new choices.new
-        ≡ solve_entry (call_of given sorts.old nodes.old binds.old
-        exprs.now names.now constraints.now
-        (record_words (take max_overloads overloads.now)) sources.now
-        scratch.old typing.old measure.old choices.old) }
+    handout: &mut Handout<'_>,
+) -> Result<Verdict, Refusal>
+    ensures says { solve_left_with result sorts.new nodes.new binds.new scratch.new handout.new
+        ≡ solve_entry (call_with given sorts.old nodes.old binds.old exprs.now names.now constraints.now
+        (record_words (take max_overloads overloads.now)) sources.now scratch.old handout.old) }
+    ensures same_reference { SameHandout handout.old handout.new }
 {
     let words = unpack(overloads);
     solve_unpacked(
@@ -169,9 +160,7 @@ pub fn solve_records(
         sources,
         given,
         scratch,
-        typing,
-        measure,
-        choices,
+        handout,
     )
 }
 

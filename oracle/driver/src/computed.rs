@@ -23,12 +23,12 @@ use mathlib.Core.Path.{◌≡◌, refl}
 use mathlib.Core.List.{List, [], ◌∷◌, ◌++◌, map}
 use Prim.Native.Nat.{ℕ, zero, suc, ◌+◌, ◌*◌, ◌-◌}
 use lib.ListN.{length, replicate, take, drop}
+use Rattle.std.specs.Prelude.{Ok, Err}
 use Rattle.resolved_sort.specs.Checks.{code_of}
 use Rattle.resolved_sort.specs.declared.Counts.{Counts}
-use Rattle.inference.specs.declared.Solved.{Solved}
-use Rattle.inference.specs.declared.Solved.TheVariants.{Refused, NoRoom, NoTyping, Ambiguous, Typing}
+use Rattle.inference.specs.declared.Verdict.TheVariants.{NoTyping, Ambiguous, Typing}
 use Rattle.inference.specs.Search.{Choice}
-use Rattle.inference.specs.SolveEntry.{SolveLeft, code_solved, measure_out, choices_out}
+use Rattle.inference.specs.SolveEntry.{Solved, SolveLeft, code_solved, measure_out, choices_out}
 use Rattle.inference.specs.Situations.{GivenList, solved_list, four_words, row_sub, row_lit, row_disjunction, row_comprehension, row_join}
 
 given : List ℕ → List ℕ → List ℕ → List ℕ → List ℕ → List ℕ → List ℕ → List ℕ → List ℕ → List ℕ → ℕ → GivenList
@@ -71,11 +71,10 @@ keeping G L k typing measure choices =
     (between (4096 + length G.entries) (4096 + k.entries) L.sorts)
 
 abbrev outcome_by : GivenList → SolveLeft → Solved → Outcome
-outcome_by G L (Refused c) = outcome (code_of c) [] [] [] [] []
-outcome_by G L (NoRoom c) = outcome c [] [] [] [] []
-outcome_by G L (NoTyping k) = keeping G L k [] [] []
-outcome_by G L (Ambiguous k) = keeping G L k [] [] []
-outcome_by G L (Typing o) = keeping G L o.counts (take (3 * length G.exprs) L.typing) (measure_out L o) (choices_out L o)
+outcome_by G L (Err r) = outcome (code_of r) [] [] [] [] []
+outcome_by G L (Ok (NoTyping k)) = keeping G L k [] [] []
+outcome_by G L (Ok (Ambiguous k)) = keeping G L k [] [] []
+outcome_by G L (Ok (Typing o)) = keeping G L o.counts (take (3 * length G.exprs) L.typing) (measure_out L o) (choices_out L o)
 
 pub outcome_of : GivenList → Outcome
 outcome_of G = outcome_by G (solved_list G) (solved_list G).answer
@@ -130,7 +129,7 @@ impl Case {
         sayable(list)?;
         let (given, outcome) = (given(list), outcome(list, asked));
         let padded = [DEFS, REPEATED].iter().any(|builder| given.contains(builder));
-        let refused = (1..=14).contains(&asked.answer.code);
+        let refused = (1..=16).contains(&asked.answer.code);
         Ok(Case { title: list.title.clone(), given, outcome, padded, refused })
     }
 }

@@ -1,6 +1,6 @@
--- After a typing the sorts are checked. Assumes nothing.
+-- A verdict that can be told. Assumes nothing.
 use Rattle.list_answers.proofs.Telling as law
 use Rattle.list_answers.proofs.tell.Goals as goal
 
-pub invariant_of-sorts : goal.invariant_of-sorts
-invariant_of-sorts c = record { checked = law.checked_to_tell _ _ c.requires _ c.in-Typing.is }
+pub put_lines-requires : goal.put_lines-requires
+put_lines-requires c = law.verdict_tellable _ _ c.requires _ c.in-Ok.is

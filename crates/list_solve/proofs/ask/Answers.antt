@@ -1,31 +1,28 @@
 -- The slices that are not told are copies of the parts of the list, lent as far as it tells. Assumes nothing.
-use Rattle.std.proofs.Common.{ℕ, arith}
-use Rattle.std.proofs.Math.ListN.{length-replicate}
+use Rattle.std.proofs.Common.{arith}
 use Rattle.list_call.proofs.Lists as list
 use Rattle.list_solve.proofs.Alone as law
 use Rattle.list_solve.proofs.ask.Goals as goal
 
 pub slice_bounds-solve_list-end : goal.slice_bounds-solve_list-end
 slice_bounds-solve_list-end c =
-    list.front_length c.args.list.now 8192 12288 _ _ (omega arith) (length-replicate {A = ℕ} 12288 0) c.copy.ensures _
-    c.length_of-nodes_end.ensures.1
+    list.front_length c.args.list.now 8192 12288 _ (omega arith) c.copied-nodes.ensures _ c.length_of-nodes_end.ensures.1
 
 pub slice_bounds-solve_list-end-2 : goal.slice_bounds-solve_list-end-2
 slice_bounds-solve_list-end-2 c =
-    list.front_length c.args.list.now 20480 512 _ _ (omega arith) (length-replicate {A = ℕ} 512 0) c.copy-2.ensures _
-    c.length_of-binds_end.ensures.1
+    list.front_length c.args.list.now 20480 512 _ (omega arith) c.copied-binds.ensures _ c.length_of-binds_end.ensures.1
 
 pub slice_bounds-solve_list-end-3 : goal.slice_bounds-solve_list-end-3
 slice_bounds-solve_list-end-3 c =
-    list.front_length c.args.list.now 29952 4096 _ _ (omega arith) (length-replicate {A = ℕ} 4096 0) c.copy-3.ensures _
-    c.length_of-scratch_end.ensures.1
+    list.front_length c.args.list.now 29952 4096 _ (omega arith) c.copied-scratch.ensures _ c.length_of-scratch_end.ensures.1
 
-pub returns : goal.returns
-returns c =
-    law.asked_alone c.args.list.now _ _ _ _ _ _ _ _ c.given_of.ensures
-    (list.front_lent c.args.list.now 8192 12288 _ _ (omega arith) (length-replicate {A = ℕ} 12288 0) c.copy.ensures _ _ _ c.length_of-nodes_end.ensures.0 c.length_of-nodes_end.ensures.1)
-    (list.rows_lent c.args.list.now _ 20480 2 4 512 _
-    (list.front_lent c.args.list.now 20480 512 _ _ (omega arith) (length-replicate {A = ℕ} 512 0) c.copy-2.ensures _ _ _ c.length_of-binds_end.ensures.0 c.length_of-binds_end.ensures.1)
-    c.rows_given.ensures.0)
-    (list.front_lent c.args.list.now 29952 4096 _ _ (omega arith) (length-replicate {A = ℕ} 4096 0) c.copy-3.ensures _ _ _ c.length_of-scratch_end.ensures.0 c.length_of-scratch_end.ensures.1)
-    _ _ _ _ _ _ _ _ c.solve_list.ensures
+pub returns-clause-says : goal.returns-clause-says
+returns-clause-says c =
+    let ws = c.args.list.now in
+    law.asked_alone ws _ _ _ _ _ _ _ _ c.given_of.ensures
+    (list.front_lent ws 8192 12288 _ (omega arith) c.copied-nodes.ensures _ _ _ c.length_of-nodes_end.ensures.0 c.length_of-nodes_end.ensures.1)
+    (list.rows_lent ws _ 20480 2 4 512 _
+    (list.front_lent ws 20480 512 _ (omega arith) c.copied-binds.ensures _ _ _ c.length_of-binds_end.ensures.0 c.length_of-binds_end.ensures.1)
+    c.rows_given-rows.ensures.0)
+    (list.front_lent ws 29952 4096 _ (omega arith) c.copied-scratch.ensures _ _ _ c.length_of-scratch_end.ensures.0 c.length_of-scratch_end.ensures.1)
+    _ _ _ _ _ _ _ _ c.solve_list.ensures.says

@@ -1,7 +1,6 @@
 -- An answer of the solver with the slices that it is told from, as the call leaves them.
 use Rattle.std.specs.Prelude.{List, ℕ}
-use Rattle.inference.specs.declared.Solved.{Solved}
-use Rattle.inference.specs.SolveEntry.{SolveLeft}
+use Rattle.inference.specs.SolveEntry.{Solved, SolveLeft}
 
 pub record ListAnswer : Type 0 where
   pub answer : Solved

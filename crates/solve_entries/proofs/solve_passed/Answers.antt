@@ -1,5 +1,6 @@
 -- `solve_passed` meets its contract: the lists are packed, searched, and left as the outcome says. Assumes nothing.
-use Rattle.std.proofs.Common.{rules}
+use Rattle.std.proofs.Common.{ap, rules, sym}
+use Rattle.search_state.specs.Inner.Solving.{Given}
 use Rattle.solve_entries.proofs.Laws as law
 use Rattle.solve_entries.proofs.solve_passed.Goals as goal
 
@@ -13,12 +14,20 @@ pub pack-requires : goal.pack-requires
 pack-requires c =
     law.can_be_packed _ _ _ _ _ _ _ _ _ _ _ _ _ c.requires _ c.sizes_of-sizes.ensures _ (search rules)
 
-pub search-requires : goal.search-requires
-search-requires c =
+pub invariant_of-names : goal.invariant_of-names
+invariant_of-names c = record { whole = law.names_lent _ _ _ _ _ _ _ _ _ _ _ _ _ c.requires }
+
+pub run-requires : goal.run-requires
+run-requires c =
     law.search_asked _ _ _ _ _ _ _ _ _ _ _ _ _ c.requires _ c.sizes_of-sizes.ensures _ c.pack.ensures _
     c.lengths_of-lengths.ensures
 
-pub returns : goal.returns
-returns c =
-    law.is_outcome _ _ _ _ _ _ _ _ _ _ _ _ _ c.requires _ c.sizes_of-sizes.ensures _ c.pack.ensures _
-    c.lengths_of-lengths.ensures _ c.search.ensures
+pub returns-clause-says : goal.returns-clause-says
+returns-clause-says c =
+    let n = c.run.ensures.same_problem in
+    let ws = c.sorts-1.given.1.1 (sym (ap (λ (g : Given). g.sorts) n)) in
+    let ns = c.nodes-1.given.1.1 (sym (ap (λ (g : Given). g.nodes) n)) in
+    let bs = c.binds-1.given.1.1 (sym (ap (λ (g : Given). g.binds) n)) in
+    let sc = c.scratch-1.given.1.1 (sym (ap (λ (g : Given). g.scratch) n)) in
+    rw (ws, ns, bs, sc) (law.is_outcome _ _ _ _ _ _ _ _ _ _ _ _ _ c.requires _ c.sizes_of-sizes.ensures _ c.pack.ensures _
+    c.lengths_of-lengths.ensures _ c.run.ensures.says)

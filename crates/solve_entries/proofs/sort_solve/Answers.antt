@@ -3,7 +3,4 @@ use Rattle.solve_entries.proofs.Laws as law
 use Rattle.solve_entries.proofs.sort_solve.Goals as goal
 
 pub pack_solved-requires : goal.pack_solved-requires
-pack_solved-requires c = law.answer_told _ _ _ _ _ _ _ _ _ c.solve.ensures
-
-pub returns : goal.returns
-returns c = law.answer_packed _ _ _ _ _ _ _ _ _ c.solve.ensures _ c.pack_solved.ensures
+pack_solved-requires c = law.answer_told _ _ _ _ _ _ _ _ _ c.solve.ensures.says

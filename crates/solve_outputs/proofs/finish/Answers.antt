@@ -1,11 +1,15 @@
--- The answer and the outputs, and then nodes and scratch. Assumes nothing.
+-- The answer and what is handed out, and then nodes and scratch. Assumes nothing.
+use Rattle.solve_outputs.specs.Inner.Handing.{names_in}
 use Rattle.solve_outputs.proofs.Finishing as law
 use Rattle.solve_outputs.proofs.finish.Goals as goal
 
 pub returns : goal.returns
-returns c = λ bs.
+returns c =
     let a = c.args in
-    let f = c.settle-solved in
-    let t = c.tidy in
-    law.settled_is_left a.lengths a.nodes.now bs a.scratch.now _ f.result _ _ _ _ _ _ (f.ensures a.nodes.now)
-    t.ensures.0 t.ensures.1
+    let e = c.settle-answer.ensures in
+    let n = names_in a.names.now.words.now a.names.now.count in
+    record {
+      says = law.all_left a.search.now _ _ n a.handout.now c.settle-answer.new.handout a.entry a.found _ e.kept c.tidy.ensures e.says;
+      same_problem = law.problem_stays a.search.now _ _ n a.handout.now a.handout.now a.entry a.found c.settle-answer.result e.kept c.tidy.ensures;
+      same_handout = e.same_reference;
+    }

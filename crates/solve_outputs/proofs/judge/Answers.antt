@@ -1,21 +1,22 @@
 -- By whether there is an incumbent, and whether it is tied. Assumes nothing.
+use Rattle.solve_outputs.specs.Inner.Handing.{names_in}
 use Rattle.solve_outputs.proofs.Finishing as law
 use Rattle.solve_outputs.proofs.judge.Goals as goal
 
-pub returns-then-not-st : goal.returns-then-not-st
-returns-then-not-st c =
+pub returns-in_default-clause-says : goal.returns-in_default-clause-says
+returns-in_default-clause-says c =
     let a = c.args in
-    law.no_incumbent a.scratch.now a.lists.now a.names.now a.name_count a.sizes a.typing.now a.measure.now
-    a.choices.now c.requires a.st _ c.counts_of-counts.ensures c.if-not-st.true
+    law.no_incumbent a.search.now (names_in a.names.now.words.now a.names.now.count) a.handout.now _ c.counts_of-counts.ensures
+    c.in_default.is
 
-pub returns-then-st : goal.returns-then-st
-returns-then-st c =
+pub returns-then-incumbent-clause-says : goal.returns-then-incumbent-clause-says
+returns-then-incumbent-clause-says c =
     let a = c.args in
-    law.tied a.scratch.now a.lists.now a.names.now a.name_count a.sizes a.typing.now a.measure.now a.choices.now
-    c.requires a.st _ c.counts_of-counts.ensures c.if-not-st.false c.if-st.true
+    law.tied a.search.now (names_in a.names.now.words.now a.names.now.count) a.handout.now _ c.counts_of-counts.ensures _ c.in-Some.is
+    c.if-incumbent.true
 
-pub returns : goal.returns
-returns c =
+pub returns-clause-says : goal.returns-clause-says
+returns-clause-says c =
     let a = c.args in
-    law.not_tied a.scratch.now a.lists.now a.names.now a.name_count a.sizes a.typing.now a.measure.now a.choices.now
-    c.requires a.st _ c.counts_of-counts.ensures c.if-not-st.false c.if-st.false _ c.hand_out.ensures
+    law.not_tied a.search.now (names_in a.names.now.words.now a.names.now.count) a.handout.now _ c.counts_of-counts.ensures _
+    c.in-Some.is c.if-incumbent.false _ c.hand_out.ensures.says

@@ -9,5 +9,7 @@ overflow_sub-before c = omega (arith, one_at_least c.args.says c.args.k _ _ _ c.
 pub returns-in-Disjunction : goal.returns-in-Disjunction
 returns-in-Disjunction c =
     let a = c.args in
-    name_by a.sizes.exprs (overloads a.scratch.now a.typing.now a.lists.now a.sizes) a.scratch.now a.typing.now a.says
-    a.k _ _ _ c.in-Disjunction.is _ _ _ c.word-i.ensures c.chosen_target.ensures c.put_name.ensures
+    name_by a.search.now.sizes.exprs
+    (overloads a.search.now.scratch.now a.typing.now a.search.now.lists.now a.search.now.sizes)
+    a.search.now.scratch.now a.typing.now a.says
+    a.k _ _ _ c.in-Disjunction.is _ _ _ c.word-i.ensures c.chosen_target-name.ensures c.put_name.ensures

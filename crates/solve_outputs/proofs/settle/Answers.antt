@@ -1,21 +1,10 @@
 -- By the answer of the search. Assumes nothing.
+use Rattle.solve_outputs.specs.Inner.Handing.{names_in}
 use Rattle.solve_outputs.proofs.Finishing as law
 use Rattle.solve_outputs.proofs.settle.Goals as goal
 
-pub returns-in-Found : goal.returns-in-Found
-returns-in-Found c = λ ns.
+pub returns-in-Err-clause-says : goal.returns-in-Err-clause-says
+returns-in-Err-clause-says c =
     let a = c.args in
-    law.found_settles a.sorts.now ns a.scratch.now a.lists.now a.names.now a.name_count a.sizes a.typing.now
-    a.measure.now a.choices.now a.lengths a.answer _ c.in-Found.is _ c.judge.ensures
-
-pub returns-in-Missed : goal.returns-in-Missed
-returns-in-Missed c = λ ns.
-    let a = c.args in
-    law.missed_settles a.sorts.now ns a.scratch.now a.lists.now a.names.now a.name_count a.sizes a.typing.now
-    a.measure.now a.choices.now a.lengths a.answer _ c.in-Missed.is _ c.judge-in-Missed.ensures
-
-pub returns-in-Full : goal.returns-in-Full
-returns-in-Full c = λ ns.
-    let a = c.args in
-    law.ended_settles a.sorts.now ns a.scratch.now a.lists.now a.names.now a.name_count a.sizes a.typing.now
-    a.measure.now a.choices.now a.lengths a.answer _ _ c.in-Full.is _ c.give_back.ensures
+    law.room_ended a.search.now (names_in a.names.now.words.now a.names.now.count) a.handout.now a.entry a.found c.in-Err.full
+    c.in-Err.is c.into.result c.into.ensures _ c.give_back.ensures

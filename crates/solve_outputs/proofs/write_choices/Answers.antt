@@ -6,19 +6,19 @@ use Rattle.solve_outputs.proofs.write_choices.Goals as goal
 pub loop-i-init : goal.loop-i-init
 loop-i-init c =
     let a = c.args in
-    choices_begin a.scratch.now a.choices.now a.lists.now a.sizes c.requires.0 c.requires.1 c.requires.2
+    choices_begin a.search.now.scratch.now a.choices.now a.search.now.lists.now a.search.now.sizes c.requires.0 c.requires.1 c.requires.2
 
 pub write_choice-k-requires : goal.write_choice-k-requires
 write_choice-k-requires c =
     let a = c.args in
     let l = c.loop-i in
-    choices_few a.scratch.now a.choices.now a.lists.now a.sizes.constraints l.choices l.k l.i l.invariant
+    choices_few a.search.now.scratch.now a.choices.now a.search.now.lists.now a.search.now.sizes.constraints l.choices l.k l.i l.invariant
 
 pub loop-i-preserved : goal.loop-i-preserved
 loop-i-preserved c =
     let a = c.args in
     let l = c.loop-i in
-    choices_go_on a.scratch.now a.choices.now a.lists.now a.sizes.constraints l.choices l.k l.i l.invariant
+    choices_go_on a.search.now.scratch.now a.choices.now a.search.now.lists.now a.search.now.sizes.constraints l.choices l.k l.i l.invariant
     (omega arith) _ c.constraint_at.ensures c.write_choice-k.new.choices c.write_choice-k.result
     c.write_choice-k.ensures
 
@@ -26,5 +26,5 @@ pub returns : goal.returns
 returns c =
     let a = c.args in
     let l = c.loop-i in
-    choices_end a.scratch.now a.choices.now a.lists.now a.sizes c.requires.0 c.requires.1 c.requires.2 l.choices l.k
+    choices_end a.search.now.scratch.now a.choices.now a.search.now.lists.now a.search.now.sizes c.requires.0 c.requires.1 c.requires.2 l.choices l.k
     l.i l.invariant (omega arith)

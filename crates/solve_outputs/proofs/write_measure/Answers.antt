@@ -10,10 +10,10 @@ pub returns : goal.returns
 returns c =
     let a = c.args in
     c.copy.ensures
-    ∙ stored_is_over (part best_measure_at a.sizes.components a.scratch.now) a.measure.now
+    ∙ stored_is_over (part best_measure_at a.search.now.sizes.components a.search.now.scratch.now) a.measure.now
     (omega (
       arith,
       c.requires,
-      length_part best_measure_at a.sizes.components a.scratch.now
+      length_part best_measure_at a.search.now.sizes.components a.search.now.scratch.now
           (omega (arith, c.requires)),
     ))

@@ -1,17 +1,16 @@
 -- What only contracts of inner functions cite, beside `specs/Finish.antt`.
-use Rattle.std.specs.Prelude.{Bool, true, false, List, ℕ, ◌*◌, ◌≤◌, length}
+use Rattle.std.specs.Prelude.{Bool, true, false, List, ℕ, ◌*◌, ◌≤◌, length, Ok, Err}
 use Rattle.std.proofs.Math.Option.{Option, none, some}
 use Rattle.resolved_sort.specs.declared.Counts.{Counts}
 use Rattle.resolved_sort.specs.Storage.{max_sorts, max_entries, full_length, given_back}
 use Rattle.unification.specs.declared.Lengths.{Lengths}
 use Rattle.unification.specs.Nodes.{max_nodes, max_node_entries, full_nodes}
-use Rattle.inference.specs.declared.Solved.{Solved}
-use Rattle.inference.specs.declared.Solved.TheVariants.{NoRoom, NoTyping, Ambiguous, Typing}
-use Rattle.inference.specs.Constraints.{name_words, BaseName, Problem}
+use Rattle.inference.specs.declared.Verdict.TheVariants.{NoTyping, Ambiguous, Typing}
+use Rattle.inference.specs.Constraints.{BaseName, Problem}
 use Rattle.inference.specs.Search.{Candidate, Out, found, missed, ended}
 use Rattle.inference.specs.SolveChecks.{typing_words, choice_words}
-use Rattle.inference.specs.SolveEntry.{SolveLeft, nodes_given_back, cleared, typing_rows, choice_rows, written_over}
-use Rattle.inference.specs.SolveEntry.{counts_in}
+use Rattle.inference.specs.SolveEntry.{Solved, SolveLeft, nodes_given_back, cleared, typing_rows, choice_rows}
+use Rattle.inference.specs.SolveEntry.{written_over, counts_in, room_refusal}
 use Rattle.search_state.specs.declared.Sizes.{Sizes}
 use Rattle.search_state.specs.Inner.Memory.{problem_in, scratch_used}
 use Rattle.search_state.specs.Inner.Searching.{Sized}
@@ -45,16 +44,16 @@ module _ (P : Problem) (names : List BaseName) (ts ms hs : List ℕ) where
   unfoldable pub handed_out : Counts → Candidate → Answered
   handed_out n c =
       answered
-      (Typing (record { counts = n; components = length c.measure; choices = length c.choices }))
+      (Ok (Typing (record { counts = n; components = length c.measure; choices = length c.choices })))
       (written_over (typing_rows P names c.choices 0 c.sorts) ts) (written_over c.measure ms)
       (written_over (choice_rows c.choices) hs)
 
   abbrev pub judged_out_by : Counts → Candidate → Bool → Answered
-  judged_out_by n c true = answered (Ambiguous n) ts ms hs
+  judged_out_by n c true = answered (Ok (Ambiguous n)) ts ms hs
   judged_out_by n c false = handed_out n c
 
   abbrev pub judged_out : Counts → Option Candidate → Answered
-  judged_out n none = answered (NoTyping n) ts ms hs
+  judged_out n none = answered (Ok (NoTyping n)) ts ms hs
   judged_out n (some c) = judged_out_by n c c.duplicate
 
   -- k is what the call began with
@@ -62,13 +61,12 @@ module _ (P : Problem) (names : List BaseName) (ts ms hs : List ℕ) where
   settled_by k (found w) = settled w.lent.sorts (judged_out (counts_in w.lent) w.best)
   settled_by k (missed w) = settled w.lent.sorts (judged_out (counts_in w.lent) w.best)
   settled_by k (ended c W) =
-      settled (given_back k.sorts k.entries W.sorts) (answered (NoRoom c) ts ms hs)
+      settled (given_back k.sorts k.entries W.sorts) (answered (Err (room_refusal c)) ts ms hs)
 
--- room for what is handed out, with n base names
-pub record Handable (sc ls ks : List ℕ) (n : ℕ) (z : Sizes) (ts ms hs : List ℕ) : Type 0 where
+-- room for what is handed out
+pub record Handable (sc ls : List ℕ) (z : Sizes) (ts ms hs : List ℕ) : Type 0 where
   pub sized : Sized (problem_in ls z) z
   pub used : scratch_used ≤ length sc
-  pub names : name_words * n ≤ length ks
   pub typing : typing_words * z.exprs ≤ length ts
   pub measure : z.components ≤ length ms
   pub choices : choice_words * z.disjunctions ≤ length hs

@@ -1,0 +1,71 @@
+-- What a search has come to, with the base names of its call and what is handed out, as the code holds them.
+use Rattle.std.specs.Prelude.{Bool, false, List, ℕ, Result}
+use Rattle.std.proofs.Math.Option.{Option}
+use Rattle.resolved_sort.specs.declared.Counts.{Counts}
+use Rattle.unification.specs.declared.Full.{Full}
+use Rattle.unification.specs.declared.Lengths.{Lengths}
+use Rattle.inference.specs.Constraints.{BaseName, base_name_at, rows_from, Problem}
+use Rattle.inference.specs.Search.{Candidate, Out}
+use Rattle.inference.specs.SolveEntry.{Solved, SolveLeft, nodes_given_back, cleared}
+use Rattle.search_state.specs.declared.Search.{Search}
+use Rattle.search_state.specs.Inner.Memory.{problem_in, candidate_of, best_of, out_of}
+use Rattle.search_state.specs.Inner.Solving.{has_best, is_tied, state_of, answer_of}
+use Rattle.solve_outputs.specs.declared.Handout.{Handout}
+use Rattle.solve_outputs.specs.Handout.{solve_left_with}
+use Rattle.solve_outputs.specs.Inner.Finish.{Answered, answered, Settled, handed_out, judged_out, settled_by, Handable}
+
+abbrev pub names_in : List ℕ → ℕ → List BaseName
+names_in ks n = rows_from (base_name_at ks) 0 n
+
+abbrev pub problem_of : Search → Problem
+problem_of s = problem_in s.lists.now s.sizes
+
+abbrev pub counts_of : Search → Counts
+counts_of s = record { sorts = s.lengths.sorts; entries = s.lengths.entries }
+
+-- the incumbent
+abbrev pub best_in : Search → Option Candidate
+best_in s = best_of s.lists.now s.sizes s.scratch.now (has_best s.best) (is_tied s.best)
+
+-- what the search answered and left
+abbrev pub came_to : Search → Result Bool Full → Out (Unit {0})
+came_to s r = out_of s.lists.now s.sizes s.sorts.now s.nodes.now s.scratch.now (answer_of (state_of s) r)
+
+-- an answer with what was handed out, and with all lent memory
+abbrev pub told_in : Solved → Handout → Answered
+told_in r h = answered r h.typing.now h.measure.now h.choices.now
+
+abbrev pub left_in : Solved → Search → Handout → SolveLeft
+left_in r s h = solve_left_with r s.sorts.now s.nodes.now s.binds.now s.scratch.now h
+
+-- the incumbent handed out, the verdict of a search that had room, and the answer of any search
+abbrev pub handing : Search → List BaseName → Handout → Answered
+handing s names h =
+    handed_out (problem_of s) names h.typing.now h.measure.now h.choices.now (counts_of s)
+    (candidate_of s.lists.now s.sizes s.scratch.now false)
+
+abbrev pub judging : Search → List BaseName → Handout → Answered
+judging s names h =
+    judged_out (problem_of s) names h.typing.now h.measure.now h.choices.now (counts_of s) (best_in s)
+
+abbrev pub settling : Search → List BaseName → Handout → Lengths → Result Bool Full → Settled
+settling s names h k r =
+    settled_by (problem_of s) names h.typing.now h.measure.now h.choices.now k (came_to s r)
+
+-- no nodes but those that the call began with, and nothing in the scratch
+abbrev pub tidied : Lengths → Search → Search
+tidied k s =
+    record {
+      sorts = s.sorts;
+      nodes = record s.nodes { now = nodes_given_back k.nodes k.arguments s.nodes.now };
+      binds = s.binds;
+      scratch = record s.scratch { now = cleared s.scratch.now };
+      lists = s.lists;
+      sizes = s.sizes;
+      lengths = s.lengths;
+      best = s.best;
+    }
+
+-- room for what is handed out
+abbrev pub CanHandOut : Search → Handout → Type 0
+CanHandOut s h = Handable s.scratch.now s.lists.now s.sizes h.typing.now h.measure.now h.choices.now
