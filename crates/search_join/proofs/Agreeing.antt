@@ -5,12 +5,14 @@ use mathlib.Core.Bool.{Bool, true, false, cond}
 use mathlib.Core.List.{List, [], ◌∷◌, ◌++◌, append_assoc}
 use Prim.Native.Nat.{ℕ, suc, ◌+◌, ◌<◌, ◌≤◌}
 use native.Mathlib.Omega.{arith}
-use lib.ListN.{length, get_or, take, drop, set}
+use lib.ListN.{length, take, drop, set, replicate}
 use lib.Seq.{sets, length-sets, sets-eq, length-take-le, take-set-le, drop-set-lt, take_at, drop_at}
 use Rattle.resolved_sort.specs.declared.SortId.{SortId}
 use Rattle.resolved_sort.specs.declared.Run.{Run}
 use Rattle.resolved_sort.specs.Rows.{AllBelow}
+use Rattle.resolved_sort.proofs.SortNumbers.{length_sort_numbers}
 use Rattle.resolved_sort.proofs.RowTrees.{weaken_all}
+use Rattle.resolved_sort.specs.Inner.Storage.{sort_numbers}
 use Rattle.unification.specs.declared.Lengths.{Lengths}
 use Rattle.std.specs.Prelude.{None as Nothing}
 use Rattle.unification.specs.Nodes.{Binds, binds_of}
@@ -28,8 +30,7 @@ use Rattle.search_state.specs.Inner.Memory.{source_at, measure_at, scratch_used}
 use Rattle.words.specs.Words.{part}
 use Rattle.search_state.specs.Inner.Leaves.{ChangedOnly, made_of, AgreesOn, extracted_of}
 use Rattle.search_state.specs.Inner.Searching.{Agreeing}
-use Rattle.search_join.specs.Inner.Sources.{Resolved}
-use Rattle.search_join.proofs.Lists.{length_first, firsts_left, first_below}
+use Rattle.search_join.specs.Inner.Sources.{Sources, Resolved}
 use Rattle.search_join.proofs.Joining.{LeavesSort, joins_leave}
 use Rattle.search_join.proofs.Heads.{head_to, heads_to}
 
@@ -58,82 +59,73 @@ stored_changes_only vs l a n e = record {
 unchanged : (l : List ℕ) (a b : ℕ) → ChangedOnly a b l l
 unchanged l a b = record { front = refl; back = refl; long = refl }
 
-module _ (ws : List ℕ) (k : Lengths) (ids : List ℕ) (m : ℕ) (sc : List ℕ) (e : Branch)
-    (asked : Resolved ws k ids m × (scratch_used ≤ length sc) × (e.measure + m ≤ max_components)) where
-  long : m ≤ length ids
-  long = asked.0.there
+-- no sorts
+pub nothing_agrees : (ws : List ℕ) (k : Lengths) (sc : List ℕ) (e : Branch) (m : ℕ) (ids : List ℕ) → ids ≡ []
+    → (ns : List ℕ) → AgreesOn ns sc e m (agreed ids (lent ws ns k)) ws sc k (Ok None)
+unfolding agreed
+nothing_agrees ws k sc e m ids z ns = record {
+  says = ap (λ (xs : List ℕ). agreed xs (lent ws ns k)) (sym z);
+  changed = unchanged sc (measure_at + e.measure) (measure_at + e.measure + m);
+}
 
-  pub nothing_agrees : m ≡ 0 → (ns : List ℕ) → AgreesOn ns sc e m (agreed (take m ids) (lent ws ns k)) ws sc k (Ok None)
+-- a sort and the rest
+module _ (ws : List ℕ) (k : Lengths) (first : ℕ) (rest ids : List ℕ) (listed : ids ≡ first ∷ rest) (sc : List ℕ) (e : Branch) (m : ℕ)
+    (asked : Resolved ws k ids) where
+  pub all_asked : Resolved ws k (first ∷ rest)
+  all_asked = subst (Resolved ws k) listed asked
+
+  abbrev by_join : Makes ℕ → Makes Agreed
+  by_join O = O and-then (λ j U. agreed_by U ids j)
+
+  agreed_first : (W : Lent) → by_join (join_all first rest W) ≡ agreed ids W
   unfolding agreed
-  nothing_agrees z ns = record {
-    says = ap (λ (n : ℕ). agreed (take n ids) (lent ws ns k)) (sym z);
-    changed =
-        unchanged sc (measure_at + e.measure) (measure_at + e.measure + m);
-  }
+  agreed_first W = ap (λ ss. join_all first rest W and-then (λ j U. agreed_by U ss j)) listed ∙ ap (λ ss. agreed ss W) (sym listed)
 
-  module _ (not_None : m ≡ 0 → ⊥) where
-    some_left : 0 < m
-    some_left = omega (arith, not_None)
+  module _ (vs : List ℕ) (l : Lengths) (r : Result (Option SortId) NoRoom) (er : (ns : List ℕ) → made_of vs ns l r ≡ join_all first rest (lent ws ns k)) where
+    by : (x : Result (Option SortId) NoRoom) → r ≡ x → (ns : List ℕ) → by_join (made_of vs ns l x) ≡ agreed ids (lent ws ns k)
+    by x z ns = ap (λ y. by_join (made_of vs ns l y)) (sym z) ∙ (ap by_join (er ns) ∙ agreed_first (lent ws ns k))
 
-    abbrev by_join : Makes ℕ → Makes Agreed
-    by_join O = O and-then (λ j U. agreed_by U (take m ids) j)
+    pub join_stops : r ≡ Ok None → (ns : List ℕ) → AgreesOn ns sc e m (agreed ids (lent ws ns k)) vs sc l (Ok None)
+    join_stops z ns = record { says = by (Ok None) z ns; changed = unchanged sc (measure_at + e.measure) (measure_at + e.measure + m) }
 
-    agreed_first : (W : Lent) → by_join (join_all (get_or ids 0 0) (drop 1 (take m ids)) W) ≡ agreed (take m ids) W
-    unfolding agreed
-    agreed_first W =
-        ap (λ ss. join_all (get_or ids 0 0) (drop 1 (take m ids)) W and-then (λ j U. agreed_by U ss j)) (firsts_left ids m long 0 some_left)
-        ∙ ap (λ ss. agreed ss W) (sym (firsts_left ids m long 0 some_left))
+    pub join_ends : (x : NoRoom) → r ≡ Err x → (ns : List ℕ) → AgreesOn ns sc e m (agreed ids (lent ws ns k)) vs sc l (Err x)
+    join_ends x z ns = record { says = by (Err x) z ns; changed = unchanged sc (measure_at + e.measure) (measure_at + e.measure + m) }
 
-    module _ (vs : List ℕ) (l : Lengths) (r : Result (Option SortId) NoRoom) (er : (ns : List ℕ) → made_of vs ns l r ≡ join_all (get_or ids 0 0) (drop 1 (take m ids)) (lent ws ns k)) where
-      by : (x : Result (Option SortId) NoRoom) → r ≡ x → (ns : List ℕ) → by_join (made_of vs ns l x) ≡ agreed (take m ids) (lent ws ns k)
-      by x z ns =
-          ap (λ y. by_join (made_of vs ns l y)) (sym z) ∙ (ap by_join (er ns) ∙ agreed_first (lent ws ns k))
+    module _ (c : SortId) (z : r ≡ Ok (Some c)) where
+      left : LeavesSort (lent ws [] k) (made c.0 (lent vs [] l))
+      unfolding AllBelow
+      left =
+          subst (LeavesSort (lent ws [] k)) (sym (er []) ∙ ap (made_of vs [] l) z)
+          (joins_leave rest (lent ws [] k) first all_asked.checked all_asked.below.0 all_asked.below.1)
 
-      pub join_stops : r ≡ Ok None → (ns : List ℕ) → AgreesOn ns sc e m (agreed (take m ids) (lent ws ns k)) vs sc l (Ok None)
-      join_stops z ns = record { says = by (Ok None) z ns; changed = unchanged sc (measure_at + e.measure) (measure_at + e.measure + m) }
+      pub still_resolved : Resolved vs l ids × (c.0 < l.sorts)
+      still_resolved = (record { checked = left.0; below = weaken_all k.sorts l.sorts ids left.2 asked.below }, left.1)
 
-      pub join_ends : (x : NoRoom) → r ≡ Err x → (ns : List ℕ) → AgreesOn ns sc e m (agreed (take m ids) (lent ws ns k)) vs sc l (Err x)
-      join_ends x z ns = record { says = by (Err x) z ns; changed = unchanged sc (measure_at + e.measure) (measure_at + e.measure + m) }
+      module _ (b : Bool) (eb : (ns : List ℕ) → b ≡ all_into (lent vs ns l) c.0 ids) where
+        abbrev heads : List ℕ
+        heads = heads_to vs l.sorts c.0 ids
 
-      module _ (c : SortId) (z : r ≡ Ok (Some c)) where
-        left : LeavesSort (lent ws [] k) (made c.0 (lent vs [] l))
-        unfolding AllBelow
-        left =
-            subst (LeavesSort (lent ws [] k)) (sym (er []) ∙ ap (made_of vs [] l) z)
-            (joins_leave (drop 1 (take m ids)) (lent ws [] k) (get_or ids 0 0) asked.0.checked (first_below ids m
-            long 0 some_left k.sorts asked.0.below) others)
-          where
-            others : AllBelow k.sorts (drop 1 (take m ids))
-            others = (subst (AllBelow k.sorts) (firsts_left ids m long 0 some_left) asked.0.below).1
+        by_test : (x : Bool) → b ≡ x → (ns : List ℕ) → cond x (made (record { sort = c.0; components = heads })
+            (lent vs ns l)) (no_list (lent vs ns l)) ≡ agreed ids (lent ws ns k)
+        by_test x f ns =
+            ap (λ y. cond y (made (record { sort = c.0; components = heads }) (lent vs ns l)) (no_list (lent vs ns l))) (sym f ∙ eb ns) ∙ by (Ok (Some c)) z ns
 
-        pub still_resolved : Resolved vs l ids m × (c.0 < l.sorts)
-        still_resolved =
-            (record { checked = left.0; there = asked.0.there; below = weaken_all k.sorts l.sorts (take m ids) left.2 asked.0.below }, left.1)
+        pub not_materializable : b ≡ false → (ns : List ℕ) → AgreesOn ns sc e m (agreed ids (lent ws ns k)) vs sc l (Ok None)
+        not_materializable f ns = record { says = by_test false f ns; changed = unchanged sc (measure_at + e.measure) (measure_at + e.measure + m) }
 
-        module _ (b : Bool) (eb : (ns : List ℕ) → b ≡ all_into (lent vs ns l) c.0 (take m ids)) where
-          abbrev heads : List ℕ
-          heads = heads_to vs l.sorts c.0 (take m ids)
-
-          by_test : (x : Bool) → b ≡ x → (ns : List ℕ) → cond x (made (record { sort = c.0; components = heads })
-              (lent vs ns l)) (no_list (lent vs ns l)) ≡ agreed (take m ids) (lent ws ns k)
-          by_test x f ns =
-              ap (λ y. cond y (made (record { sort = c.0; components = heads }) (lent vs ns l)) (no_list (lent vs ns l))) (sym f ∙ eb ns) ∙ by (Ok (Some c)) z ns
-
-          pub not_materializable : b ≡ false → (ns : List ℕ) → AgreesOn ns sc e m (agreed (take m ids) (lent ws ns k)) vs sc l (Ok None)
-          not_materializable f ns = record { says = by_test false f ns; changed = unchanged sc (measure_at + e.measure) (measure_at + e.measure + m) }
-
-          pub they_agree : b ≡ true → (sc' : List ℕ) → sc' ≡ sets sc (measure_at + e.measure) heads
-              → (ns : List ℕ) → AgreesOn ns sc e m (agreed (take m ids) (lent ws ns k)) vs sc' l (Ok (Some c))
-          they_agree f sc' es ns =
-              let many : length heads ≡ m = length_each (head_to vs l.sorts c.0) (take m ids) ∙ length_first ids m long in
-              record {
-                says =
-                    ap (λ cs. made (record { sort = c.0; components = cs }) (lent vs ns l))
-                    (ap (part (measure_at + e.measure) m) es ∙ part_sets heads sc (measure_at + e.measure) m many (omega (arith, asked.1, asked.2)))
-                    ∙ by_test true f ns;
-                changed = subst (ChangedOnly (measure_at + e.measure) (measure_at + e.measure + m) sc) (sym es)
-                    (stored_changes_only heads sc (measure_at + e.measure) m many);
-              }
+        pub they_agree : b ≡ true → length ids ≡ m → (scratch_used ≤ length sc) × (e.measure + m ≤ max_components)
+            → (sc' : List ℕ) → sc' ≡ sets sc (measure_at + e.measure) heads
+            → (ns : List ℕ) → AgreesOn ns sc e m (agreed ids (lent ws ns k)) vs sc' l (Ok (Some c))
+        they_agree f n room sc' es ns =
+            let many : length heads ≡ m = length_each (head_to vs l.sorts c.0) ids ∙ n in
+            record {
+              says =
+                  ap (λ cs. made (record { sort = c.0; components = cs }) (lent vs ns l))
+                  (ap (part (measure_at + e.measure) m) es ∙ part_sets heads sc (measure_at + e.measure) m many (omega (arith, room.0, room.1)))
+                  ∙ by_test true f ns;
+              changed = subst (ChangedOnly (measure_at + e.measure) (measure_at + e.measure + m) sc) (sym es)
+                  (stored_changes_only heads sc (measure_at + e.measure) m many);
+            }
 
 -- The sources of a Join.
 module _ (ws ns bs sc ls : List ℕ) (k : Lengths) (e : Branch) (run : Run) (asked : Agreeing ws ns bs sc ls k e run) where
@@ -157,30 +149,51 @@ module _ (ws ns bs sc ls : List ℕ) (k : Lengths) (e : Branch) (run : Run) (ask
     pub sources_end : (x : NoRoom) → r ≡ Err x → AgreesOn ns sc e run.count (join_of B ps W) vs sc l (Err x)
     sources_end x z = record { says = by_sources (Err x) z; changed = unchanged sc (measure_at + e.measure) (measure_at + e.measure + run.count) }
 
-    module _ (len : length ids ≡ max_sources) (z : r ≡ Ok true) where
-      pub resolved : Resolved vs l ids run.count × (scratch_used ≤ length sc) × (e.measure + run.count ≤ max_components)
+    module _ (z : r ≡ Ok true) (us : List ℕ) (eu : us ≡ take run.count ids) where
+      pub resolved : Resolved vs l us
       unfolding MadeSorts
-      resolved = (
-        record {
-          checked = made_sorts.0.grows.checked.sorts;
-          there = omega (arith, asked.inside, len);
-          below = stand_below W B Nothing (lent vs ns l) ps (take run.count ids) made_sorts.1;
-        },
-        asked.long,
-        asked.room,
-      )
+      resolved =
+          record {
+            checked = made_sorts.0.grows.checked.sorts;
+            below = subst (AllBelow l.sorts) (sym eu) (stand_below W B Nothing (lent vs ns l) ps (take run.count ids) made_sorts.1);
+          }
         where
           made_sorts : MadeSorts (λ U ss. StandAll W B Nothing U ps ss) (NoDefault Nothing) W (made (take run.count ids) (lent vs ns l))
           made_sorts =
               subst (MadeSorts (λ U ss. StandAll W B Nothing U ps ss) (NoDefault Nothing) W) (sym er ∙ ap (extracted_of vs ns ids 0 run.count l) z)
               (resolve_all_makes W asked.ready.nodes B asked.ready.binds Nothing tt ps asked.placed W (sorts_only_refl W asked.ready.nodes))
 
-      pub sources_agree : (us sc' : List ℕ) (l' : Lengths) (x : Result (Option SortId) NoRoom)
-          → ((os : List ℕ) → AgreesOn os sc e run.count (agreed (take run.count ids) (lent vs os l)) us sc' l' x)
-          → AgreesOn ns sc e run.count (join_of B ps W) us sc' l' x
-      sources_agree us sc' l' x a = subst (λ O. AgreesOn ns sc e run.count O us sc' l' x) (by_sources (Ok true) z) (a ns)
+      pub sources_agree : (n : ℕ) → n ≡ run.count → (vs' sc' : List ℕ) (l' : Lengths) (x : Result (Option SortId) NoRoom)
+          → ((os : List ℕ) → AgreesOn os sc e n (agreed us (lent vs os l)) vs' sc' l' x)
+          → AgreesOn ns sc e run.count (join_of B ps W) vs' sc' l' x
+      sources_agree n en vs' sc' l' x a = subst (λ O. AgreesOn ns sc e run.count O vs' sc' l' x) (by_sources (Ok true) z) (subst (λ (j : ℕ). AgreesOn ns sc e j (agreed (take run.count ids) (lent vs ns l)) vs' sc' l' x) en
+          (subst (λ (xs : List ℕ). AgreesOn ns sc e n (agreed xs (lent vs ns l)) vs' sc' l' x) eu (a ns)))
 
 -- the same, from the words left as they were
 pub of_scratch : (sc sc' : List ℕ) → sc' ≡ sc → (ns : List ℕ) (e : Branch) (n : ℕ) (O : Makes Agreed) (ws' : List ℕ) (k' : Lengths)
     (r : Result (Option SortId) NoRoom) → AgreesOn ns sc e n O ws' sc k' r → AgreesOn ns sc e n O ws' sc' k' r
 of_scratch sc sc' p ns e n O ws' k' r a = rw p a
+
+-- the sorts of a slice by their numbers
+pub none_listed : (ids : List SortId) → length ids ≡ 0 → sort_numbers ids ≡ []
+unfolding sort_numbers
+none_listed [] e = refl
+none_listed (s ∷ ss) e = absurd (omega (arith, e))
+
+pub first_listed : (ids : List SortId) (s : SortId) (ss : List SortId) → ids ≡ s ∷ ss → sort_numbers ids ≡ s.0 ∷ sort_numbers ss
+unfolding sort_numbers
+first_listed ids s ss e = ap sort_numbers e
+
+pub so_many : (n : ℕ) (ids : List SortId) → n ≤ length ids → length (take n ids) ≡ n
+so_many n ids l = length-take-le n ids l
+
+-- room for every source's number
+pub room_for_all : (ws ns bs sc ls : List ℕ) (k : Lengths) (e : Branch) (run : Run) → Agreeing ws ns bs sc ls k e run
+    → Sources ws ns bs ls (sort_numbers (replicate max_sources (record { 0 = 0 }))) k run
+room_for_all ws ns bs sc ls k e run a =
+    record {
+      ready = a.ready;
+      placed = a.placed;
+      inside = a.inside;
+      room = omega (arith, a.inside, length_sort_numbers (replicate max_sources (record { 0 = 0 })));
+    }

@@ -1,74 +1,94 @@
 -- What resolve and join answer, with the lengths then, is what the definition makes. By the cases of the answer. Assumes nothing.
-use mathlib.Core.Path.{◌≡◌, refl, sym, ◌∙◌, ap, ap₂}
+use mathlib.Core.Path.{◌≡◌, refl, sym, ◌∙◌, ap, subst}
 use mathlib.Core.Bool.{true}
 use mathlib.Core.List.{List}
 use mathlib.Core.Option.{none, some}
 use mathlib.Core.Option.{Option as Maybe}
-use Rattle.std.specs.Prelude.{Option, Result}
+use Rattle.std.specs.Prelude.{Option, Some as Is, None as Nothing, Result, Ok, Err}
 use Rattle.resolved_sort.specs.declared.NoRoom.{NoRoom}
 use Prim.Native.Nat.{ℕ}
 use Rattle.resolved_sort.specs.declared.SortId.{SortId}
 use Rattle.resolved_sort.specs.declared.Counts.{Counts}
-use Rattle.resolved_sort.specs.declared.Joined.{Joined}
-use Rattle.resolved_sort.specs.declared.Joined.TheVariants.{At, Nothing as NotThere, Full}
-use Rattle.resolved_sort.specs.declared.Widening.TheVariants.{Distance, Nothing as NoDistance}
-use Rattle.resolved_sort.specs.Order.{Steps, distance}
-use Rattle.resolved_sort.specs.Entries.{Stored, widening_of, tree_at}
-use Rattle.resolved_sort.specs.Rows.{stored_at}
-use Rattle.resolved_sort.specs.Bounds.{bound_at}
+use Rattle.resolved_sort.specs.declared.Steps.{Steps as StepsAnswer}
+use Rattle.resolved_sort.specs.Order.{Steps, steps_of, distance}
+use Rattle.resolved_sort.specs.Entries.{Stored, tree_at}
+use Rattle.resolved_sort.specs.Rows.{left_at}
+use Rattle.resolved_sort.specs.Bounds.{Asked, bound_at}
 use Rattle.resolved_sort.proofs.Reached.{no_confusion}
 use Rattle.unification.specs.declared.Lengths.{Lengths}
-use Rattle.std.specs.Prelude.{None as Nothing}
+use Rattle.unification.specs.Default.{Default}
 use Rattle.unification.specs.Nodes.{binds_of}
+use Rattle.unification.specs.Checked.{Ready, Placed}
 use Rattle.unification.specs.Inner.Resolve.{value_in}
-use Rattle.unification.specs.Resolve.{term_resolved, with_counts}
+use Rattle.unification.specs.Resolve.{DefaultBelow, term_resolved, with_counts}
 use Rattle.inference.specs.Search.{makes_sort, resolve_in, join_in, head_steps}
 use Rattle.search_state.specs.Inner.Leaves.{made_of}
-use Rattle.search_join.specs.Inner.Sources.{made_from, counted}
+use Rattle.unification.specs.Making.{Makes}
 use Rattle.unification.specs.Inner.Making.{lent}
 
-pub from_sort : (k : Lengths) (j : Joined) (id : SortId) (c : Counts) → j ≡ At id c → (l : Lengths) → l ≡ with_counts k c → l ≡ counted k j
-from_sort k j id c e l f = f ∙ ap (counted k) (sym e)
+-- an answer r, with counts C then, of the sorts K that the lengths k tell of
+module _ (ws ns : List ℕ) (k : Lengths) (K : Counts) (eK : K ≡ record { sorts = k.sorts; entries = k.entries }) where
+  module _ (vs : List ℕ) (C : Counts) (r : Result (Option SortId) NoRoom) where
+    as_made : (y : Option SortId) → made_of vs ns (with_counts k C) (Ok y) ≡ makes_sort (lent ws ns k) (left_at vs C (Ok y)) (left_at vs C (Ok y)).answer
+    as_made (Is id) = refl
+    as_made Nothing = refl
 
-pub from_none : (k : Lengths) (j : Joined) (c : Counts) → j ≡ NotThere c → (l : Lengths) → l ≡ with_counts k c → l ≡ counted k j
-from_none k j c e l f = f ∙ ap (counted k) (sym e)
+    module _ (o : Stored) (e : left_at vs C r ≡ o) where
+      answers : (y : Option SortId) → r ≡ Ok y → made_of vs ns (with_counts k C) (Ok y) ≡ makes_sort (lent ws ns k) o o.answer
+      answers y z = as_made y ∙ ap (λ (x : Stored). makes_sort (lent ws ns k) x x.answer) (ap (left_at vs C) (sym z) ∙ e)
 
-module _ (ws ns : List ℕ) (k : Lengths) (vs : List ℕ) where
-  as_made : (j : Joined) → made_of vs ns (counted k j) (made_from j) ≡ makes_sort (lent ws ns k) (stored_at vs j) j
-  as_made (At id c) = refl
-  as_made (NotThere c) = refl
-  as_made Full = refl
+      ends : (x y : NoRoom) → r ≡ Err x → made_of vs ns k (Err y) ≡ makes_sort (lent ws ns k) o o.answer
+      ends x y z = ap (λ (x : Stored). makes_sort (lent ws ns k) x x.answer) (ap (left_at vs C) (sym z) ∙ e)
 
-  made_by : (j : Joined) (l : Lengths) (r : Result (Option SortId) NoRoom) → l ≡ counted k j → r ≡ made_from j → (o : Stored) → stored_at vs j ≡ o
-      → made_of vs ns l r ≡ makes_sort (lent ws ns k) o o.answer
-  made_by j l r d e o f =
-      ap₂ (made_of vs ns) d e ∙ (as_made j ∙ ap (λ (x : Stored). makes_sort (lent ws ns k) x x.answer) f)
+    -- of a place
+    module _ (bs : List ℕ) (d : Default) (p : ℕ)
+        (e : left_at vs C r ≡ term_resolved ws (with_counts k K) d (value_in ws ns bs (with_counts k K) p)) where
+      same : left_at vs C r ≡ term_resolved ws k d (value_in ws ns bs k p)
+      same = e ∙ ap (λ (D : Counts). term_resolved ws (with_counts k D) d (value_in ws ns bs (with_counts k D) p)) eK
 
-  pub sort_made : (bs : List ℕ) (p : ℕ) (j : Joined) (l : Lengths) (r : Result (Option SortId) NoRoom) → l ≡ counted k j → r ≡ made_from j
-      → stored_at vs j ≡ term_resolved ws k Nothing (value_in ws ns bs k p)
-      → made_of vs ns l r ≡ resolve_in Nothing (binds_of bs k.variables) p (lent ws ns k)
-  unfolding resolve_in
-  sort_made bs p j l r d e f = made_by j l r d e (term_resolved ws k Nothing (value_in ws ns bs k p)) f
+      pub sort_found : (y : Option SortId) → r ≡ Ok y → (l : Lengths) → l ≡ with_counts k C
+          → made_of vs ns l (Ok y) ≡ resolve_in d (binds_of bs k.variables) p (lent ws ns k)
+      unfolding resolve_in
+      sort_found y z l el = ap (λ (j : Lengths). made_of vs ns j (Ok y)) el ∙ answers (term_resolved ws k d (value_in ws ns bs k p)) same y z
 
-  pub join_made : (a b : ℕ) (j : Joined) (l : Lengths) (r : Result (Option SortId) NoRoom) → l ≡ counted k j → r ≡ made_from j
-      → stored_at vs j ≡ bound_at true ws k.sorts k.entries a b → made_of vs ns l r ≡ join_in a b (lent ws ns k)
-  unfolding join_in
-  join_made a b j l r d e f = made_by j l r d e (bound_at true ws k.sorts k.entries a b) f
+      pub sort_ends : (x : NoRoom) → r ≡ Err x → (y : NoRoom) → made_of vs ns k (Err y) ≡ resolve_in d (binds_of bs k.variables) p (lent ws ns k)
+      unfolding resolve_in
+      sort_ends x z y = ends (term_resolved ws k d (value_in ws ns bs k p)) same x y z
 
--- with the sorts in use by themselves
-pub with_counts_of : (ws : List ℕ) (k : Lengths) (C : Counts) → C ≡ record { sorts = k.sorts; entries = k.entries } → (vs : List ℕ) (j : Joined) (a b : ℕ)
-    → stored_at vs j ≡ bound_at true ws C.sorts C.entries a b → stored_at vs j ≡ bound_at true ws k.sorts k.entries a b
-with_counts_of ws k C e vs j a b f = f ∙ ap (λ D. bound_at true ws D.sorts D.entries a b) e
+    -- of two sorts
+    module _ (a b : ℕ) (e : left_at vs C r ≡ bound_at true ws K.sorts K.entries a b) where
+      same_bound : left_at vs C r ≡ bound_at true ws k.sorts k.entries a b
+      same_bound = e ∙ ap (λ (D : Counts). bound_at true ws D.sorts D.entries a b) eK
+
+      pub join_found : (y : Option SortId) → r ≡ Ok y → (l : Lengths) → l ≡ with_counts k C → made_of vs ns l (Ok y) ≡ join_in a b (lent ws ns k)
+      unfolding join_in
+      join_found y z l el = ap (λ (j : Lengths). made_of vs ns j (Ok y)) el ∙ answers (bound_at true ws k.sorts k.entries a b) same_bound y z
+
+      pub join_ends : (x : NoRoom) → r ≡ Err x → (y : NoRoom) → made_of vs ns k (Err y) ≡ join_in a b (lent ws ns k)
+      unfolding join_in
+      join_ends x z y = ends (bound_at true ws k.sorts k.entries a b) same_bound x y z
+
+  pub sort_asked : (bs : List ℕ) (d : Default) (p : ℕ) → Ready ws ns bs k × DefaultBelow k.sorts d × Placed k p
+      → (Ready ws ns bs (with_counts k K) × DefaultBelow K.sorts d) × Placed (with_counts k K) p
+  sort_asked bs d p h = rw eK ((h.0, h.1), h.2)
+
+  pub join_asked : (a b : ℕ) → Asked ws k.sorts k.entries a b → Asked ws K.sorts K.entries a b
+  join_asked a b h = rw eK h
 
 -- the distance of two sorts of a list
 abbrev pub between : List ℕ → ℕ → ℕ → ℕ → Maybe Steps
 between ws n a b = distance true (tree_at ws n a) (tree_at ws n b)
 
 -- the head of a distance, where there is one
-pub head_is : (h i : ℕ) (o : Maybe Steps) → Distance h i ≡ widening_of o → h ≡ head_steps o
-head_is h i none e = no_confusion (cc)
-head_is h i (some d) e = cc
+pub head_is : (o : Maybe Steps) (d : StepsAnswer) (r : Option StepsAnswer) → r ≡ steps_of o → r ≡ Is d → d.head ≡ head_steps o
+head_is none d r e z = no_confusion (cc)
+head_is (some x) d r e z = cc
 
-pub no_head : (o : Maybe Steps) → NoDistance ≡ widening_of o → 0 ≡ head_steps o
-no_head none e = refl
-no_head (some d) e = no_confusion (cc)
+pub no_head : (o : Maybe Steps) (r : Option StepsAnswer) → r ≡ steps_of o → r ≡ Nothing → 0 ≡ head_steps o
+no_head none r e z = refl
+no_head (some d) r e z = no_confusion (cc)
+
+-- the words that an interner held are the search's
+pub made_moved : (us vs : List ℕ) → vs ≡ us → (ns : List ℕ) (l : Lengths) (r : Result (Option SortId) NoRoom) (O : Makes ℕ)
+    → made_of us ns l r ≡ O → made_of vs ns l r ≡ O
+made_moved us vs e ns l r O = subst (λ (ws : List ℕ). made_of ws ns l r ≡ O) (sym e)

@@ -1,24 +1,20 @@
 -- The test that all sorts are materializable into their join, and the heads that are stored, one sort after another. Assumes nothing.
-use mathlib.Core.Path.{◌≡◌, refl, sym, ◌∙◌, ap}
+use mathlib.Core.Path.{◌≡◌, refl, sym, ◌∙◌, ap, ap₂}
 use mathlib.Core.Bool.{Bool, true, false, ◌&&◌, and-eq-true_iff}
 use mathlib.Core.List.{List, [], ◌∷◌}
 use Prim.Native.Nat.{ℕ, zero, suc, ◌+◌, ◌<◌, ◌≤◌}
 use native.Mathlib.Omega.{arith}
 use native.Mathlib.Nat.{add-zero}
-use lib.ListN.{length, get_or, take, drop, set, drop_of_length-le}
+use lib.ListN.{length, get_or, drop, set, drop_of_length-le}
 use lib.Seq.{sets}
 use borrow.Author.Count.{below_more}
-use Rattle.resolved_sort.specs.declared.Counts.{Counts}
 use Rattle.resolved_sort.specs.Order.{distance, materializable}
 use Rattle.resolved_sort.specs.Entries.{tree_at}
-use Rattle.resolved_sort.specs.Rows.{Checked}
-use Rattle.unification.specs.declared.Lengths.{Lengths}
+use Rattle.resolved_sort.specs.Rows.{AllBelow}
 use Rattle.unification.specs.Related.{each}
 use Rattle.unification.specs.Making.{Lent}
-use Rattle.unification.specs.Inner.Making.{lent}
 use Rattle.inference.specs.Search.{head_steps, all_into}
-use Rattle.search_join.specs.Inner.Sources.{Resolved}
-use Rattle.search_join.proofs.Lists.{length_first, first_at, firsts_left, first_below}
+use Rattle.search_join.proofs.Lists.{below_at, one_left}
 
 -- a sort of the list into another
 abbrev pub Into : List ℕ → ℕ → ℕ → ℕ → Bool
@@ -47,64 +43,47 @@ head_to ws n j s = head_steps (distance true (tree_at ws n s) (tree_at ws n j))
 abbrev pub heads_to : List ℕ → ℕ → ℕ → List ℕ → List ℕ
 heads_to ws n j ss = each (head_to ws n j) ss
 
--- those from the i-th of the first m on, stored from p + i on
-abbrev pub stored_from : List ℕ → ℕ → ℕ → List ℕ → ℕ → List ℕ → ℕ → ℕ → List ℕ
-stored_from ws n j ids m sc p i = sets sc (p + i) (heads_to ws n j (drop i (take m ids)))
+-- those from the i-th on, stored from p + i on
+abbrev pub stored_from : List ℕ → ℕ → ℕ → List ℕ → List ℕ → ℕ → ℕ → List ℕ
+stored_from ws n j ids sc p i = sets sc (p + i) (heads_to ws n j (drop i ids))
 
--- The first m of the numbers, with the sorts in use by themselves.
-module _ (ws : List ℕ) (k : Lengths) (ids : List ℕ) (m : ℕ) (j : ℕ) (asked : Resolved ws k ids m × (j < k.sorts)) (C : Counts)
-    (eC : C ≡ record { sorts = k.sorts; entries = k.entries }) where
-  long : m ≤ length ids
-  long = asked.0.there
+module _ (ws : List ℕ) (n : ℕ) (ids : List ℕ) (j : ℕ) (below : AllBelow n ids) (less : j < n) where
+  module _ (i : ℕ) (h : i < length ids) (s : ℕ) (es : s ≡ get_or ids i 0) where
+    pub two_of_list : (s < n) × (j < n)
+    two_of_list = rw es (below_at n ids below i h, less)
 
-  same_sorts : C.sorts ≡ k.sorts
-  same_sorts = ap (λ D. D.sorts) eC
+    module _ (b : Bool) (eb : b ≡ Into ws n j s) where
+      at_word : Into ws n j (get_or ids i 0) ≡ b
+      at_word = ap (Into ws n j) (sym es) ∙ sym eb
 
-  module _ (i : ℕ) (h : i < m) where
-    pub two_of_list : (s : ℕ) → s ≡ get_or ids i 0 → Checked ws C.sorts C.entries × (s < C.sorts) × (j < C.sorts)
-    two_of_list s es = rw (es, eC) (asked.0.checked, first_below ids m long i h k.sorts asked.0.below, asked.1)
+      pub one_is_not : b ≡ false → (W : Lent) → (W.sorts ≡ ws) × (W.lengths.sorts ≡ n) → false ≡ all_into W j ids
+      one_is_not f W e =
+          sym (one_out W j ids i h (ap₂ (λ (xs : List ℕ) (m : ℕ). Into xs m j (get_or ids i 0)) e.0 e.1 ∙ (at_word ∙ f)))
 
-    module _ (s : ℕ) (es : s ≡ get_or ids i 0) (b : Bool) (eb : b ≡ Into ws C.sorts j s) where
-      at_word : Into ws C.sorts j (get_or ids i 0) ≡ b
-      at_word = ap (Into ws C.sorts j) (sym es) ∙ sym eb
-
-      pub one_is_not : b ≡ false → (ns : List ℕ) → false ≡ all_into (lent ws ns k) j (take m ids)
-      one_is_not f ns =
-          sym
-          (one_out (lent ws ns k) j (take m ids) i (omega (arith, h, length_first ids m long))
-          (ap (Into ws k.sorts j) (first_at ids m long i h) ∙ (ap (λ (n : ℕ). Into ws n j (get_or ids i 0)) (sym same_sorts) ∙ (at_word ∙ f))))
-
-      pub one_more_is : b ≡ true → ((x : ℕ) → x < i → Into ws C.sorts j (get_or ids x 0) ≡ true) → (x : ℕ)
-          → x < i + 1 → Into ws C.sorts j (get_or ids x 0) ≡ true
+      pub one_more_is : b ≡ true → ((x : ℕ) → x < i → Into ws n j (get_or ids x 0) ≡ true) → (x : ℕ)
+          → x < i + 1 → Into ws n j (get_or ids x 0) ≡ true
       one_more_is f g = below_more _ _ g (at_word ∙ f)
 
-  pub all_are : (i : ℕ) → m ≤ i → ((x : ℕ) → x < i → Into ws C.sorts j (get_or ids x 0) ≡ true) → (ns : List ℕ) → true ≡ all_into (lent ws ns k) j (take m ids)
-  all_are i h g ns =
-      sym
-      (all_in (lent ws ns k) j (take m ids)
-      (λ x l.
-      let z : x < m = omega (arith, l, length_first ids m long) in
-      ap (Into ws k.sorts j) (first_at ids m long x z) ∙ (ap (λ (n : ℕ). Into ws n j (get_or ids x 0)) (sym same_sorts) ∙ g x (omega (arith, z, h)))))
+  pub all_are : (i : ℕ) → length ids ≤ i → ((x : ℕ) → x < i → Into ws n j (get_or ids x 0) ≡ true) → (W : Lent)
+      → (W.sorts ≡ ws) × (W.lengths.sorts ≡ n) → true ≡ all_into W j ids
+  all_are i h g W e =
+      sym (all_in W j ids (λ x l. ap₂ (λ (xs : List ℕ) (m : ℕ). Into xs m j (get_or ids x 0)) e.0 e.1 ∙ g x (omega (arith, l, h))))
 
-  -- stored one after another
-  module _ (sc₀ : List ℕ) (p : ℕ) where
-    pub heads_start : sets sc₀ p (heads_to ws C.sorts j (take m ids)) ≡ stored_from ws C.sorts j ids m sc₀ p 0
-    heads_start = ap (λ (q : ℕ). sets sc₀ q (heads_to ws C.sorts j (take m ids))) (sym (add-zero p))
+-- stored one after another
+module _ (ws : List ℕ) (n : ℕ) (ids : List ℕ) (j : ℕ) (sc₀ : List ℕ) (p : ℕ) where
+  pub heads_start : sets sc₀ p (heads_to ws n j ids) ≡ stored_from ws n j ids sc₀ p 0
+  heads_start = ap (λ (q : ℕ). sets sc₀ q (heads_to ws n j ids)) (sym (add-zero p))
 
-    module _ (sc : List ℕ) (i : ℕ) (inv : sets sc₀ p (heads_to ws C.sorts j (take m ids)) ≡ stored_from ws C.sorts j ids m sc p i) where
-      pub heads_next : i < m → (s : ℕ) → s ≡ get_or ids i 0 → (h : ℕ) → h ≡ head_to ws C.sorts j s → (sc' : List ℕ) → sc' ≡ set sc (p + i) h
-          → sets sc₀ p (heads_to ws C.sorts j (take m ids)) ≡ stored_from ws C.sorts j ids m sc' p (i + 1)
-      heads_next l s es h eh sc' e =
-          let n : ℕ = C.sorts in
-          let rest : List ℕ = heads_to ws n j (drop (i + 1) (take m ids)) in
-          let further : suc (p + i) ≡ p + (i + 1) = omega arith in
-          inv
-          ∙ (ap (λ ss. sets sc (p + i) (heads_to ws n j ss)) (firsts_left ids m long i l)
-          ∙ (ap (λ (x : ℕ). sets (set sc (p + i) x) (suc (p + i)) rest) (sym (eh ∙ ap (head_to ws C.sorts j) es))
-          ∙ (ap (λ (q : ℕ). sets (set sc (p + i) h) q rest) further ∙ ap (λ xs. sets xs (p + (i + 1)) rest) (sym e))))
+  module _ (sc : List ℕ) (i : ℕ) (inv : sets sc₀ p (heads_to ws n j ids) ≡ stored_from ws n j ids sc p i) where
+    pub heads_next : i < length ids → (s : ℕ) → s ≡ get_or ids i 0 → (h : ℕ) → h ≡ head_to ws n j s → (sc' : List ℕ) → sc' ≡ set sc (p + i) h
+        → sets sc₀ p (heads_to ws n j ids) ≡ stored_from ws n j ids sc' p (i + 1)
+    heads_next l s es h eh sc' e =
+        let rest : List ℕ = heads_to ws n j (drop (i + 1) ids) in
+        let further : suc (p + i) ≡ p + (i + 1) = omega arith in
+        inv
+        ∙ (ap (λ ss. sets sc (p + i) (heads_to ws n j ss)) (one_left ids i l)
+        ∙ (ap (λ (x : ℕ). sets (set sc (p + i) x) (suc (p + i)) rest) (sym (eh ∙ ap (head_to ws n j) es))
+        ∙ (ap (λ (q : ℕ). sets (set sc (p + i) h) q rest) further ∙ ap (λ xs. sets xs (p + (i + 1)) rest) (sym e))))
 
-      pub heads_end : m ≤ i → sc ≡ sets sc₀ p (heads_to ws k.sorts j (take m ids))
-      heads_end l =
-          let z : length (take m ids) ≤ i = omega (arith, l, length_first ids m long) in
-          sym (inv ∙ ap (λ ss. sets sc (p + i) (heads_to ws C.sorts j ss)) (drop_of_length-le (take m ids) z))
-          ∙ ap (λ (n : ℕ). sets sc₀ p (heads_to ws n j (take m ids))) same_sorts
+    pub heads_end : length ids ≤ i → sc ≡ sets sc₀ p (heads_to ws n j ids)
+    heads_end l = sym (inv ∙ ap (λ ss. sets sc (p + i) (heads_to ws n j ss)) (drop_of_length-le ids l))

@@ -5,8 +5,7 @@ use mathlib.Core.Bool.{true}
 use mathlib.Core.List.{List, [], ◌∷◌}
 use Prim.Native.Nat.{ℕ, ◌+◌, ◌<◌, ◌≤◌}
 use native.Mathlib.Omega.{arith}
-use lib.ListN.{length, get_or, take, drop}
-use lib.Seq.{drop-length}
+use lib.ListN.{length, get_or, drop, drop_of_length-le}
 use Rattle.resolved_sort.specs.declared.SortId.{SortId}
 use Rattle.resolved_sort.specs.declared.Counts.{Counts}
 use Rattle.resolved_sort.specs.declared.Joined.{Joined}
@@ -31,7 +30,7 @@ use Rattle.std.specs.Prelude.{Option, Some, None, Result, Ok, Err}
 use Rattle.resolved_sort.specs.declared.NoRoom.{NoRoom}
 use Rattle.search_state.specs.Inner.Leaves.{made_of}
 use Rattle.search_join.specs.Inner.Sources.{Resolved}
-use Rattle.search_join.proofs.Lists.{length_first, firsts_left, first_below}
+use Rattle.search_join.proofs.Lists.{below_at, one_left}
 
 -- a sort of a list that passes its checks and has all that W has
 abbrev pub LeavesSort : Lent → Makes ℕ → Type 0
@@ -101,78 +100,58 @@ joins_leave (b ∷ bs) W a c x y =
     leaves_then W (join_in a b W) (λ j U. join_all j bs U) (join_leaves W a b (record { checked = c; lhs = x; rhs = y.0 }))
     (λ j U d z l. joins_leave bs U j d z (weaken_all W.lengths.sorts U.lengths.sorts bs l y.1))
 
--- before the i-th sort; ₀ marks what was at entry
-pub record Going (ids : List ℕ) (m : ℕ) (ws₀ : List ℕ) (k₀ : Lengths) (ws : List ℕ) (lub : ℕ) (k : Lengths) (i : ℕ) : Type 0 where
-  pub within : i ≤ m
-  pub long : length ws ≡ length ws₀
-  pub resolved : Resolved ws k ids m
+-- before the i-th of the rest; ₀ marks what was at entry
+pub record Going (first : ℕ) (rest : List ℕ) (ws₀ : List ℕ) (k₀ : Lengths) (ws : List ℕ) (lub : ℕ) (k : Lengths) (i : ℕ) : Type 0 where
+  pub resolved : Resolved ws k rest
   pub below : lub < k.sorts
-  pub same : (ns : List ℕ) → join_all lub (drop i (take m ids)) (lent ws ns k) ≡ join_all (get_or ids 0 0) (drop 1 (take m ids)) (lent ws₀ ns k₀)
+  pub same : (ns : List ℕ) → join_all lub (drop i rest) (lent ws ns k) ≡ join_all first rest (lent ws₀ ns k₀)
 
-pub start : (ids : List ℕ) (m : ℕ) (ws : List ℕ) (k : Lengths) → Resolved ws k ids m × (0 < m) → (a : ℕ) → a ≡ get_or ids 0 0 → Going ids m ws k ws a k 1
-start ids m ws k x a e =
-    record {
-      within = omega (arith, x.1);
-      long = refl;
-      resolved = x.0;
-      below = subst (λ (y : ℕ). y < k.sorts) (sym e) (first_below ids m x.0.there 0 x.1 k.sorts x.0.below);
-      same = λ ns. ap (λ (y : ℕ). join_all y (drop 1 (take m ids)) (lent ws ns k)) e;
-    }
+pub start : (first : ℕ) (rest : List ℕ) (ws : List ℕ) (k : Lengths) → Resolved ws k (first ∷ rest) → Going first rest ws k ws first k 0
+unfolding AllBelow
+start first rest ws k x =
+    record { resolved = record { checked = x.checked; below = x.below.1 }; below = x.below.0; same = λ ns. refl }
 
-module _ (ids : List ℕ) (m : ℕ) (ws₀ : List ℕ) (k₀ : Lengths) (ws : List ℕ) (lub : ℕ) (k : Lengths) (i : ℕ) (G : Going ids m ws₀ k₀ ws lub k i) where
-  long : m ≤ length ids
-  long = G.resolved.there
+module _ (first : ℕ) (rest : List ℕ) (ws₀ : List ℕ) (k₀ : Lengths) (ws : List ℕ) (lub : ℕ) (k : Lengths) (i : ℕ) (G : Going first rest ws₀ k₀ ws lub k i) where
+  module _ (h : i < length rest) (b : ℕ) (eb : b ≡ get_or rest i 0) where
+    pub asked : Asked ws k.sorts k.entries lub b
+    asked =
+        record {
+          checked = G.resolved.checked;
+          lhs = G.below;
+          rhs = subst (λ (x : ℕ). x < k.sorts) (sym eb) (below_at k.sorts rest G.resolved.below i h);
+        }
 
-  module _ (h : i < m) where
-    module _ (b : ℕ) (eb : b ≡ get_or ids i 0) where
-      pub asked : Asked ws k.sorts k.entries lub b
-      asked =
+    abbrev then : ℕ → Lent → Makes ℕ
+    then j U = join_all j (drop (i + 1) rest) U
+
+    next_joined : (ns : List ℕ) → join_in lub b (lent ws ns k) and-then then ≡ join_all first rest (lent ws₀ ns k₀)
+    unfolding join_all
+    next_joined ns =
+        ap (λ x. join_in lub x (lent ws ns k) and-then then) eb ∙ (ap (λ xs. join_all lub xs (lent ws ns k)) (sym (one_left rest i h)) ∙ G.same ns)
+
+    module _ (vs : List ℕ) (l : Lengths) (r : Result (Option SortId) NoRoom) (er : (ns : List ℕ) → made_of vs ns l r ≡ join_in lub b (lent ws ns k)) where
+      by : (x : Result (Option SortId) NoRoom) → r ≡ x → (ns : List ℕ) → made_of vs ns l x and-then then ≡ join_all first rest (lent ws₀ ns k₀)
+      by x z ns = ap (λ y. made_of vs ns l y and-then then) (sym z) ∙ (ap (λ O. O and-then then) (er ns) ∙ next_joined ns)
+
+      pub stops : r ≡ Ok None → (ns : List ℕ) → made_of vs ns l (Ok None) ≡ join_all first rest (lent ws₀ ns k₀)
+      stops z = by (Ok None) z
+
+      pub ends : (x : NoRoom) → r ≡ Err x → (ns : List ℕ) → made_of vs ns l (Err x) ≡ join_all first rest (lent ws₀ ns k₀)
+      ends x z = by (Err x) z
+
+      pub next : (c : SortId) → r ≡ Ok (Some c) → Going first rest ws₀ k₀ vs c.0 l (i + 1)
+      next c z =
+          let x : LeavesSort (lent ws [] k) (made c.0 (lent vs [] l)) = subst (LeavesSort (lent ws [] k))
+          (sym (er []) ∙ ap (made_of vs [] l) z) (join_leaves (lent ws [] k) lub b asked) in
           record {
-            checked = G.resolved.checked;
-            lhs = G.below;
-            rhs = subst (λ (x : ℕ). x < k.sorts) (sym eb) (first_below ids m long i h k.sorts G.resolved.below);
+            resolved = record { checked = x.0; below = weaken_all k.sorts l.sorts rest x.2 G.resolved.below };
+            below = x.1;
+            same = by (Ok (Some c)) z;
           }
 
-      abbrev rest : ℕ → Lent → Makes ℕ
-      rest j U = join_all j (drop (i + 1) (take m ids)) U
-
-      first : (ns : List ℕ) → join_in lub b (lent ws ns k) and-then rest ≡ join_all (get_or ids 0 0) (drop 1 (take m ids)) (lent ws₀ ns k₀)
-      unfolding join_all
-      first ns =
-          ap (λ x. join_in lub x (lent ws ns k) and-then rest) eb ∙ (ap (λ xs. join_all lub xs (lent ws ns k)) (sym (firsts_left ids m long i h)) ∙ G.same ns)
-
-      module _ (vs : List ℕ) (l : Lengths) (r : Result (Option SortId) NoRoom) (er : (ns : List ℕ) → made_of vs ns l r ≡ join_in lub b (lent ws ns k)) where
-        by : (x : Result (Option SortId) NoRoom) → r ≡ x → (ns : List ℕ) → made_of vs ns l x and-then rest ≡ join_all (get_or ids 0 0) (drop 1 (take m ids)) (lent ws₀ ns k₀)
-        by x z ns = ap (λ y. made_of vs ns l y and-then rest) (sym z) ∙ (ap (λ O. O and-then rest) (er ns) ∙ first ns)
-
-        pub stops : r ≡ Ok None → (ns : List ℕ) → made_of vs ns l (Ok None) ≡ join_all (get_or ids 0 0) (drop 1 (take m ids)) (lent ws₀ ns k₀)
-        stops z = by (Ok None) z
-
-        pub ends : (x : NoRoom) → r ≡ Err x → (ns : List ℕ) → made_of vs ns l (Err x) ≡ join_all (get_or ids 0 0) (drop 1 (take m ids)) (lent ws₀ ns k₀)
-        ends x z = by (Err x) z
-
-        pub next : length vs ≡ length ws → (c : SortId) → r ≡ Ok (Some c) → Going ids m ws₀ k₀ vs c.0 l (i + 1)
-        next f c z =
-            let x : LeavesSort (lent ws [] k) (made c.0 (lent vs [] l)) = subst (LeavesSort (lent ws [] k))
-            (sym (er []) ∙ ap (made_of vs [] l) z) (join_leaves (lent ws [] k) lub b asked) in
-            record {
-              within = omega (arith, h);
-              long = f ∙ G.long;
-              resolved = record {
-                checked = x.0;
-                there = G.resolved.there;
-                below = weaken_all k.sorts l.sorts
-                    (take m ids) x.2 G.resolved.below;
-              };
-              below = x.1;
-              same = by (Ok (Some c)) z;
-            }
-
   -- no sort is left
-  pub all_joined : m ≤ i → (l : SortId) → l.0 ≡ lub → (ns : List ℕ) → made_of ws ns k (Ok (Some l)) ≡ join_all (get_or ids 0 0) (drop 1 (take m ids)) (lent ws₀ ns k₀)
+  pub all_joined : length rest ≤ i → (l : SortId) → l.0 ≡ lub → (ns : List ℕ) → made_of ws ns k (Ok (Some l)) ≡ join_all first rest (lent ws₀ ns k₀)
   unfolding join_all
   all_joined h l e ns =
-      let at-end : length (take m ids) ≡ i = omega (arith, h, G.within, length_first ids m long) in
       ap (λ (x : ℕ). made x (lent ws ns k)) e
-      ∙ (ap (λ xs. join_all lub xs (lent ws ns k)) (sym (drop-length (take m ids)))
-      ∙ (ap (λ (n : ℕ). join_all lub (drop n (take m ids)) (lent ws ns k)) at-end ∙ G.same ns))
+      ∙ (ap (λ xs. join_all lub xs (lent ws ns k)) (sym (drop_of_length-le rest h)) ∙ G.same ns)

@@ -8,25 +8,17 @@ use native.Mathlib.Numerals.{add-one, unary_clauses}
 use native.Mathlib.Omega.{arith}
 use lib.ListN.{length, set}
 use Rattle.resolved_sort.specs.declared.SortId.{SortId}
-use Rattle.resolved_sort.specs.declared.Counts.{Counts}
-use Rattle.resolved_sort.specs.declared.Joined.{Joined}
-use Rattle.resolved_sort.specs.declared.Joined.TheVariants.{At, Nothing as NotThere, Full}
-use Rattle.resolved_sort.specs.Entries.{Stored}
-use Rattle.resolved_sort.specs.Rows.{stored_at}
 use Rattle.unification.specs.declared.Lengths.{Lengths}
-use Rattle.unification.specs.Default.{Default}
-use Rattle.std.specs.Prelude.{Some as Is}
+use Rattle.std.specs.Prelude.{Option, Some as Is, None}
 use Rattle.unification.specs.Nodes.{Binds, binds_of}
 use Rattle.unification.specs.Checked.{Ready, Placed}
-use Rattle.unification.specs.Inner.Resolve.{value_in}
-use Rattle.unification.specs.Resolve.{term_resolved, with_counts}
 use Rattle.unification.specs.Making.{Lent, Makes, made, no_list, no_room, ◌and-then◌}
 use Rattle.unification.specs.Inner.Making.{lent}
-use Rattle.unification.proofs.Grows.{placed_grown, ready_grown}
+use Rattle.unification.proofs.Grows.{placed_grown, ready_grown, same_binds}
 use Rattle.unification.proofs.SortsLeft.{SortWith}
 use Rattle.unification.proofs.ResolveAnswers.{AlwaysStandsFor}
 use Rattle.inference.specs.Constraints.{rows_from}
-use Rattle.inference.specs.Search.{makes_sort, resolve_in, resolve_all}
+use Rattle.inference.specs.Search.{resolve_in, resolve_all}
 use Rattle.inference.proofs.Members.{each_row_at}
 use Rattle.inference.specs.Inner.Listed.{SortsOnly}
 use Rattle.inference.proofs.Invariant.{sorts_only_refl, sorts_only_trans}
@@ -35,17 +27,10 @@ use Rattle.std.specs.Prelude.{Result, Ok, Err}
 use Rattle.resolved_sort.specs.declared.NoRoom.{NoRoom}
 use Rattle.search_state.specs.Inner.Memory.{expr_at, best_sorts_at}
 use Rattle.words.specs.Words.{part}
-use Rattle.search_state.specs.Inner.Leaves.{ChangedOnly, Extracts}
+use Rattle.search_state.specs.Inner.Leaves.{ChangedOnly, Extracts, made_of}
 use Rattle.search_state.proofs.Parts.{changed_none, changed_then, changed_by_set}
 use Rattle.words.proofs.Parts.{part_set_end}
 use Rattle.search_leaf.specs.Inner.Leaf.{Readable, sorts_from}
-
--- resolving a place, by what the code answers
-pub resolved_in : (ws ns bs : List ℕ) (k : Lengths) (x : Default) (p : ℕ) (vs : List ℕ) (w : Joined)
-    → stored_at vs w ≡ term_resolved ws k x (value_in ws ns bs k p)
-    → resolve_in x (binds_of bs k.variables) p (lent ws ns k) ≡ makes_sort (lent ws ns k) (stored_at vs w) w
-unfolding resolve_in
-resolved_in ws ns bs k x p vs w e = ap (λ (r : Stored). makes_sort (lent ws ns k) r r.answer) (sym e)
 
 -- before the i-th expression; ₀ marks what was at entry
 pub record Extracting (ns bs ls : List ℕ) (d : SortId) (n : ℕ) (ws₀ sc₀ : List ℕ) (k₀ : Lengths) (ws sc : List ℕ) (k : Lengths) (i : ℕ) : Type 0 where
@@ -109,10 +94,10 @@ module _ (ns bs ls : List ℕ) (d : SortId) (n : ℕ) (ws₀ sc₀ : List ℕ) (
         subst (Placed k) (sym ep) (placed_grown W₀ G.entered.ready.nodes W G.only.grows (expr_at ls i)
         (each_row_at (Placed k₀) (expr_at ls) n G.entered.placed i h))
 
-    pub asked : Ready ws ns bs k × Placed k p × (d.0 < k.sorts)
-    asked = (ready, placed, default)
+    pub asked : Ready ws ns bs k × (d.0 < k.sorts) × Placed k p
+    asked = (ready, default, placed)
 
-    module _ (vs : List ℕ) (w : Joined) (ew : stored_at vs w ≡ term_resolved ws k (Is d) (value_in ws ns bs k p)) where
+    module _ (vs : List ℕ) (l : Lengths) (r : Result (Option SortId) NoRoom) (er : made_of vs ns l r ≡ resolve_in (Is d) B p W) where
       abbrev rest : Lent → Makes (List ℕ)
       rest W = resolve_all (Is d) B (rows_from (expr_at ls) (i + 1) (n - (i + 1))) W
 
@@ -120,60 +105,52 @@ module _ (ns bs ls : List ℕ) (d : SortId) (n : ℕ) (ws₀ sc₀ : List ℕ) (
       abbrev after_first : Makes ℕ → Makes (List ℕ)
       after_first O = (O and-then (λ s W. rest W and-then (λ ss W. made (s ∷ ss) W))) and-then (λ ss W. made (part best_sorts_at i sc ++ ss) W)
 
-      on : after_first (makes_sort W (stored_at vs w) w) ≡ whole
+      on : after_first (made_of vs ns l r) ≡ whole
       unfolding resolve_all rows_from
       on =
           let e : n - i ≡ suc (n - (i + 1)) = omega (arith, h) in
-          ap after_first
-          (sym (ap (λ (q : ℕ). resolve_in (Is d) B q W) (sym ep) ∙ resolved_in ws ns bs k (Is d) p vs w ew))
+          ap after_first (er ∙ ap (λ (q : ℕ). resolve_in (Is d) B q W) ep)
           ∙ (ap (λ (m : ℕ). sorts_from bs ls d i m W and-then (λ ss W. made (part best_sorts_at i sc ++ ss) W)) (sym e) ∙ G.same)
 
-      makes : MadeSorts (SortWith (AlwaysStandsFor W B (Is d) p)) ⊥ W (makes_sort W (stored_at vs w) w)
-      makes =
-          subst (MadeSorts (SortWith (AlwaysStandsFor W B (Is d) p)) ⊥ W) (resolved_in ws ns bs k (Is d) p vs w ew)
-          (resolve_makes W ready.nodes B ready.binds (Is d) default p placed)
+      by : (x : Result (Option SortId) NoRoom) → r ≡ x → after_first (made_of vs ns l x) ≡ whole
+      by x z = ap (λ (y : Result (Option SortId) NoRoom). after_first (made_of vs ns l y)) (sym z) ∙ on
 
-      pub stops : (K : Counts) → w ≡ NotThere K → (k' : Lengths) → k' ≡ with_counts k K → Extracts ns sc₀ best_sorts_at n whole vs sc k' (Ok false)
-      stops K z k' ek =
-          record {
-            says = ap (λ (j : Lengths). no_list (lent vs ns j)) ek ∙ subst (λ (v : Joined). after_first (makes_sort W (stored_at vs v) v) ≡ whole) z on;
-            changed = G.changed;
-          }
+      pub stops : r ≡ Ok None → Extracts ns sc₀ best_sorts_at n whole vs sc l (Ok false)
+      stops z = record { says = by (Ok None) z; changed = G.changed }
 
-      pub ends : w ≡ Full → (x : NoRoom) → Extracts ns sc₀ best_sorts_at n whole vs sc k (Err x)
-      ends z x =
-          record {
-            says = subst (λ (v : Joined). after_first (makes_sort W (stored_at vs v) v) ≡ whole) z on;
-            changed = G.changed;
-          }
+      pub ends : (x : NoRoom) → r ≡ Err x → Extracts ns sc₀ best_sorts_at n whole vs sc l (Err x)
+      ends x z = record { says = by (Err x) z; changed = G.changed }
 
-      pub next : (c : SortId) (K : Counts) → w ≡ At c K → (k' : Lengths) → k' ≡ with_counts k K → (sc' : List ℕ)
-          → sc' ≡ set sc (best_sorts_at + i) c.0 → Extracting ns bs ls d n ws₀ sc₀ k₀ vs sc' k' (i + 1)
+      pub next : (c : SortId) → r ≡ Ok (Is c) → (sc' : List ℕ) → sc' ≡ set sc (best_sorts_at + i) c.0
+          → Extracting ns bs ls d n ws₀ sc₀ k₀ vs sc' l (i + 1)
       unfolding MadeSorts
-      next c K z k' ek sc' es = subst (λ (j : Lengths). Extracting ns bs ls d n ws₀ sc₀ k₀ vs sc' j (i + 1)) (sym ek)
-          (subst (λ (ys : List ℕ). Extracting ns bs ls d n ws₀ sc₀ k₀ vs ys (with_counts k K) (i + 1)) (sym es) there)
+      next c z sc' es = subst (λ (ys : List ℕ). Extracting ns bs ls d n ws₀ sc₀ k₀ vs ys l (i + 1)) (sym es) there
         where
-          only : SortsOnly W (lent vs ns (with_counts k K))
-          only = (subst (λ (v : Joined). MadeSorts (SortWith (AlwaysStandsFor W B (Is d) p)) ⊥ W (makes_sort W (stored_at vs v) v)) z makes).0
+          only : SortsOnly W (lent vs ns l)
+          only =
+              (subst (MadeSorts (SortWith (AlwaysStandsFor W B (Is d) p)) ⊥ W) (sym er ∙ ap (made_of vs ns l) z)
+              (resolve_makes W ready.nodes B ready.binds (Is d) default p placed)).0
 
           last : part best_sorts_at (i + 1) (set sc (best_sorts_at + i) c.0) ≡ part best_sorts_at i sc ++ (c.0 ∷ [])
           last = ap (λ (j : ℕ). part best_sorts_at j (set sc (best_sorts_at + i) c.0)) (add-one i) ∙ part_set_end
               best_sorts_at i sc c.0 (omega (arith, h, G.entered.few, G.entered.long, scratch_long))
 
-          there : Extracting ns bs ls d n ws₀ sc₀ k₀ vs (set sc (best_sorts_at + i) c.0) (with_counts k K) (i + 1)
+          there : Extracting ns bs ls d n ws₀ sc₀ k₀ vs (set sc (best_sorts_at + i) c.0) l (i + 1)
           there =
               record {
                 entered = G.entered;
                 within = omega (arith, h);
-                only = sorts_only_trans W₀ W (lent vs ns (with_counts k K)) G.entered.ready.nodes G.only only;
+                only = sorts_only_trans W₀ W (lent vs ns l) G.entered.ready.nodes G.only only;
                 changed =
                     changed_then best_sorts_at (best_sorts_at + n) sc₀ sc (set sc (best_sorts_at + i) c.0) G.changed
                     (changed_by_set best_sorts_at (best_sorts_at + n) sc (best_sorts_at + i) c.0 (omega arith)
                     (omega (arith, h)));
                 same =
-                    one_before (part best_sorts_at i sc) (part best_sorts_at (i + 1) (set sc (best_sorts_at + i) c.0))
-                    c.0 last (rest (lent vs ns (with_counts k K)))
-                    ∙ subst (λ (v : Joined). after_first (makes_sort W (stored_at vs v) v) ≡ whole) z on;
+                    ap (λ (C : Binds). resolve_all (Is d) C (rows_from (expr_at ls) (i + 1) (n - (i + 1))) (lent vs ns l) and-then
+                    (λ ss U. made (part best_sorts_at (i + 1) (set sc (best_sorts_at + i) c.0) ++ ss) U)) (same_binds W ready.nodes (lent vs ns l) only.grows bs)
+                    ∙ (one_before (part best_sorts_at i sc) (part best_sorts_at (i + 1) (set sc (best_sorts_at + i) c.0))
+                    c.0 last (rest (lent vs ns l))
+                    ∙ by (Ok (Is c)) z);
               }
 
   pub all_read : n ≤ i → Extracts ns sc₀ best_sorts_at n whole ws sc k (Ok true)
@@ -198,3 +175,12 @@ as_entered ns ns' bs bs' ls ls' p q o sc d n ws k ws' sc' k' r x =
     subst (λ (ys : List ℕ). Extracts ys sc best_sorts_at n (sorts_from bs ls d 0 n (lent ws ys k)) ws' sc' k' r) p
     (subst (λ (ys : List ℕ). Extracts ns' sc best_sorts_at n (sorts_from ys ls d 0 n (lent ws ns' k)) ws' sc' k' r) q
     (subst (λ (ys : List ℕ). Extracts ns' sc best_sorts_at n (sorts_from bs' ys d 0 n (lent ws ns' k)) ws' sc' k' r) o x))
+
+pub going_as : (ns ns' bs bs' ls ls' : List ℕ) → ns' ≡ ns → bs' ≡ bs → ls' ≡ ls → (d : SortId) (n : ℕ) (ws₀ sc₀ : List ℕ) (k₀ : Lengths)
+    (ws sc : List ℕ) (k : Lengths) (i : ℕ) → Extracting ns bs ls d n ws₀ sc₀ k₀ ws sc k i → Extracting ns' bs' ls' d n ws₀ sc₀ k₀ ws sc k i
+going_as ns ns' bs bs' ls ls' p q o d n ws₀ sc₀ k₀ ws sc k i G = rw (p, q, o) G
+
+-- from the words left as they were
+pub of_scratch : (sc sc' : List ℕ) → sc' ≡ sc → (ns sc₀ : List ℕ) (a n : ℕ) (O : Makes (List ℕ)) (ws' : List ℕ) (k' : Lengths)
+    (r : Result Bool NoRoom) → Extracts ns sc₀ a n O ws' sc k' r → Extracts ns sc₀ a n O ws' sc' k' r
+of_scratch sc sc' p ns sc₀ a n O ws' k' r x = rw p x

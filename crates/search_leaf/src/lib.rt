@@ -13,9 +13,8 @@ ghost use Rattle.search_state.specs.Inner.Solving.{AtLeaf, Comparable, Comes, Ke
 ghost use Rattle.search_leaf.specs.Inner.Leaf.{ranked_by, IsDominated, Readable, sorts_from};
 ghost use Rattle.search_leaf.specs.Inner.Leaf.{kept_as_best, Keepable};
 
-use infer_nodes::with_counts;
-use resolved_sort::{Joined, NoRoom};
-use resolver::resolve_or_default;
+use resolved_sort::NoRoom;
+use search_join::sort_of;
 use search_state::{
     BEST_CHOICES_AT, BEST_MEASURE_AT, BEST_SORTS_AT, Branch, CHOICES_AT, EXPRS_AT, Incumbent,
     MEASURE_AT, Search, Sizes,
@@ -44,7 +43,7 @@ fn rank(search: &Search<'_>, at: Branch) -> Ordering
 // Branch and bound. A disjunction or comprehension adds no component and tries every alternative, so without this each
 // one would be followed to its leaf although a better leaf is known: exponential in the number of disjunctions.
 // Pruning is exact: earlier components dominate, so a prefix that is greater can never become equal or smaller, and one
-// that is equal goes on, since a leaf below may tie (worse-exactly-if-extensions-greater in inference). As merc says,
+// that is equal goes on, since a leaf below may tie (worse_exactly_if_extensions_greater in inference). As merc says,
 // it changes nothing about which typing wins or which lists are ambiguous.
 pub fn dominated(search: &Search<'_>, at: Branch) -> bool
     requires { Comparable search.now at }
@@ -67,23 +66,13 @@ fn extract(search: &mut Search<'_>) -> Result<bool, NoRoom>
         × KeepsRest search.old search.new
         × (search.new.nodes.now ≡ search.old.nodes.now) }
 {
-    let default = search.sizes.default;
+    let default = Some(search.sizes.default);
     for i in 0..search.sizes.exprs {
         let place = InferSortId(word(search.lists, EXPRS_AT + i as usize));
-        let lengths = search.lengths;
-        let nodes = &mut *search.nodes;
-        let binds = &mut *search.binds;
-        match resolve_or_default(search.sorts, nodes, binds, lengths, place, default) {
-            Joined::At(id, made) => {
-                put(search.scratch, BEST_SORTS_AT + i as usize, id.0);
-                search.lengths = with_counts(lengths, made);
-            }
-            Joined::Nothing(made) => {
-                search.lengths = with_counts(lengths, made);
-                return Ok(false);
-            }
-            Joined::Full => return Err(NoRoom),
-        }
+        let Some(id) = sort_of(search, default, place)? else {
+            return Ok(false);
+        };
+        put(search.scratch, BEST_SORTS_AT + i as usize, id.0);
     }
     Ok(true)
 }

@@ -1,9 +1,6 @@
 // The state of the search of merc's inference.rs: the types that its definitions, contracts and code speak of.
 #![tactic(auto)]
 
-ghost use Rattle.std.specs.Prelude.{◌≡◌};
-ghost use Rattle.search_state.specs.Inner.Leaves.{with_lengths};
-
 use resolved_sort::SortId;
 use unification::{InferSortId, Lengths};
 
@@ -19,10 +16,8 @@ pub struct Sizes {
     pub default: SortId,
 }
 
-// What goes on from branch to branch: how much of the lists is in use, whether there is an incumbent, and whether
-// another leaf had its measure. The Rust's `best`, whose measure, sorts and choices stand in the scratch.
-// They are read out at the leaf, because backtracking takes back the bindings that they are read from. An incumbent
-// that is tied and never beaten means that the list is ambiguous.
+// What goes on from branch to branch, as the definitions see it: how much of the lists is in use, whether there is an
+// incumbent, and whether another leaf had its measure.
 #[derive(Clone, Copy, Debug, PartialEq, Eq)]
 pub struct State {
     pub lengths: Lengths,
@@ -51,17 +46,6 @@ pub struct Search<'a> {
     pub sizes: Sizes,
     pub lengths: Lengths,
     pub best: Option<Incumbent>,
-}
-
-// The state with other lengths.
-pub fn with_lengths(st: State, lengths: Lengths) -> State
-    ensures { result ≡ with_lengths st lengths }
-{
-    State {
-        lengths,
-        best: st.best,
-        tied: st.tied,
-    }
 }
 
 // What a branch has taken on: how many variables are on the trail, and how many components and choices there are.
@@ -96,14 +80,16 @@ pub enum Next {
 }
 
 // The places that a try makes equal: two, or two and then two more.
+// kept: a slice of pairs would need its length, one or two, in each contract of the cycle.
 #[derive(Clone, Copy, Debug, PartialEq, Eq)]
 pub enum Pairs {
     One(InferSortId, InferSortId),
     Two(InferSortId, InferSortId, InferSortId, InferSortId),
 }
 
-// What a try adds to its branch: nothing; a component; components that stand in the scratch
-// already; the position of an overload.
+// What a try adds to its branch: nothing; a component; components that stand in the scratch already; the position of an
+// overload.
+// kept: a closure in its place would go through the cycle of calls, as in Next.
 #[derive(Clone, Copy, Debug, PartialEq, Eq)]
 pub enum Step {
     Nothing,
@@ -112,20 +98,12 @@ pub enum Step {
     Choice(u16),
 }
 
-// Up to four places.
-#[derive(Clone, Copy, Debug, PartialEq, Eq)]
-pub struct Four(
-    pub InferSortId,
-    pub InferSortId,
-    pub InferSortId,
-    pub InferSortId,
-);
-
-// Tries one after another: each of the places against another one, on its left (up) or on its right, the first with the
-// component `first`, each next with one more.
+// Tries one after another: each of the first `count` places against another one, on its left (up) or on its right, the
+// first with the component `first`, each next with one more.
+// kept: an array with its count, since no heap holds a list and a slice of places that are made has no owner.
 #[derive(Clone, Copy, Debug, PartialEq, Eq)]
 pub struct Tries {
-    pub ids: Four,
+    pub ids: [InferSortId; MAX_TRIES],
     pub count: u16,
     pub other: InferSortId,
     pub up: bool,
@@ -134,12 +112,16 @@ pub struct Tries {
 
 // What stands at the place of a literal: a number sort that it may have, with its component; a free
 // variable; or anything else.
+// kept: three cases, each with its name, are plainer than an Option of an Option.
 #[derive(Clone, Copy, Debug, PartialEq, Eq)]
 pub enum LitAt {
     Number(u16),
     Free,
     Other,
 }
+
+// At most as many tries as there are number sorts.
+pub const MAX_TRIES: usize = 4;
 
 // The lists of a problem in one slice, each at its ceiling: constraints first, then overloads,
 // sources and places of expressions.

@@ -1,10 +1,14 @@
 -- Each return by a law of Agreeing. Assumes nothing.
-use Rattle.std.proofs.Common.{ap, ◌∙◌}
+use Rattle.std.proofs.Common.{ap, ◌∙◌, arith}
 use Rattle.std.specs.Prelude.{Ok}
+use Rattle.resolved_sort.proofs.SortNumbers.{take_sort_numbers}
 use Rattle.search_state.specs.Inner.Solving.{Stays}
 use Rattle.search_state.proofs.Solving.{no_room}
 use Rattle.search_join.proofs.Agreeing as law
 use Rattle.search_join.proofs.agreed.Goals as goal
+
+pub resolve_sources-requires : goal.resolve_sources-requires
+resolve_sources-requires c = law.room_for_all _ _ _ _ _ _ _ _ c.requires
 
 pub returns-in_err-resolve_sources : goal.returns-in_err-resolve_sources
 returns-in_err-resolve_sources c =
@@ -29,15 +33,16 @@ pub agreement-requires : goal.agreement-requires
 agreement-requires c =
     let k = c.resolve_sources.ensures.1 in
     let r = law.resolved _ _ _ _ _ _ _ _ c.requires _ _ _ c.resolve_sources.result c.resolve_sources.ensures.0
-    c.resolve_sources.auto.ids (c.in_ok-resolve_sources.was ∙ ap Ok c.if-not-branch.false) in
-    (r.0, rw (ap (λ (x : Stays). x.scratch) k) r.1, r.2)
+    (c.in_ok-resolve_sources.was ∙ ap Ok c.if-not-branch.false) _ (take_sort_numbers c.args.sources.count c.resolve_sources.new.ids) in
+    (r, rw (ap (λ (x : Stays). x.scratch) k) c.requires.long, omega (arith, c.requires.room, law.so_many c.args.sources.count c.resolve_sources.new.ids (omega (arith, c.requires.inside, c.resolve_sources.auto.ids))))
 
 pub returns : goal.returns
 returns c =
     let k = c.resolve_sources.ensures.1 in
     let a = c.agreement.ensures in (
       law.sources_agree _ _ _ _ _ _ _ _ c.requires _ _ _ c.resolve_sources.result c.resolve_sources.ensures.0
-          c.resolve_sources.auto.ids (c.in_ok-resolve_sources.was ∙ ap Ok c.if-not-branch.false) _ _ _ _
+          (c.in_ok-resolve_sources.was ∙ ap Ok c.if-not-branch.false) _ (take_sort_numbers c.args.sources.count c.resolve_sources.new.ids) _
+          (law.so_many c.args.sources.count c.resolve_sources.new.ids (omega (arith, c.requires.inside, c.resolve_sources.auto.ids))) _ _ _ _
           (λ os. rw (ap (λ (x : Stays). x.scratch) k) at (a.0 os)),
       a.1 ∙ ap (λ (x : Stays). x.kept) k,
       a.2 ∙ ap (λ (x : Stays). x.nodes) k,

@@ -1,59 +1,82 @@
 -- Each return by a law of Agreeing. Assumes nothing.
-use Rattle.std.proofs.Common.{refl, ap, ◌∙◌}
+use Rattle.std.proofs.Common.{refl, ap, ◌∙◌, sym, arith}
+use Rattle.std.proofs.lemmas.Option.{MatchOption-at_none}
 use Rattle.std.specs.Prelude.{Ok}
+use Rattle.resolved_sort.proofs.SortNumbers.{length_sort_numbers}
+use Rattle.unification.specs.Inner.Making.{lent}
 use Rattle.search_state.specs.Inner.Solving.{Stays}
 use Rattle.search_state.proofs.Solving.{no_room, not_some}
 use Rattle.search_join.proofs.Agreeing as law
 use Rattle.search_join.proofs.agreement.Goals as goal
 
-pub returns-then-count-eq0 : goal.returns-then-count-eq0
-returns-then-count-eq0 c = (law.nothing_agrees _ _ _ _ _ _ c.requires c.if-count-eq0.true, refl, refl)
+pub returns-in_default : goal.returns-in_default
+returns-in_default c = (
+  law.nothing_agrees _ _ _ _ _ _ (law.none_listed c.args.ids.now (MatchOption-at_none _ _ c.in_default.is c.split_first.ensures.cases)),
+  refl,
+  refl,
+)
+
+pub join_all-requires : goal.join_all-requires
+join_all-requires c =
+    law.all_asked _ _ _ _ _ (law.first_listed c.args.ids.now _ _ c.in-Some.ensures.cases.0) c.args.search.now.scratch.now c.args.at 0 c.requires.0
 
 pub returns-in_err-lub : goal.returns-in_err-lub
 returns-in_err-lub c =
     let k = c.join_all.ensures.1 in (
       λ ns. law.of_scratch _ _ (ap (λ (x : Stays). x.scratch) k) _ _ _ _ _ _ _ (rw (no_room c.from_residual.result _ c.from_residual.ensures (record {}))
-          (law.join_ends _ _ _ _ _ _ c.requires c.if-count-eq0.false _ _ c.join_all.result c.join_all.ensures.0 _ c.in_err-lub.was ns)),
+          (law.join_ends _ _ _ _ _ (law.first_listed c.args.ids.now _ _ c.in-Some.ensures.cases.0) _ _ _ c.requires.0 _ _ c.join_all.result
+          c.join_all.ensures.0 _ c.in_err-lub.was ns)),
       ap (λ (x : Stays). x.kept) k,
       ap (λ (x : Stays). x.nodes) k,
     )
 
-pub returns-in_default : goal.returns-in_default
-returns-in_default c =
+pub returns-in_default-2 : goal.returns-in_default-2
+returns-in_default-2 c =
     let k = c.join_all.ensures.1 in (
       λ ns. law.of_scratch _ _ (ap (λ (x : Stays). x.scratch) k) _ _ _ _ _ _ _
-          (law.join_stops _ _ _ _ _ _ c.requires c.if-count-eq0.false _ _ c.join_all.result c.join_all.ensures.0
-          (c.in_ok-lub.was ∙ ap Ok (not_some _ c.in_default.not-Some)) ns),
+          (law.join_stops _ _ _ _ _ (law.first_listed c.args.ids.now _ _ c.in-Some.ensures.cases.0) _ _ _ c.requires.0 _ _ c.join_all.result
+          c.join_all.ensures.0 (c.in_ok-lub.was ∙ ap Ok (not_some _ c.in_default-2.not-Some)) ns),
       ap (λ (x : Stays). x.kept) k,
       ap (λ (x : Stays). x.nodes) k,
     )
+
+pub invariant_of-sorts : goal.invariant_of-sorts
+invariant_of-sorts c =
+    let r = law.still_resolved _ _ _ _ _ (law.first_listed c.args.ids.now _ _ c.in-Some.ensures.cases.0) c.args.search.now.scratch.now c.args.at 0
+    c.requires.0 _ _ c.join_all.result c.join_all.ensures.0 _ (c.in_ok-lub.was ∙ ap Ok c.in-Some-2.is) in
+    record { checked = rw c.counts_of-counts.ensures r.0.checked }
 
 pub all_materializable-requires : goal.all_materializable-requires
 all_materializable-requires c =
-    law.still_resolved _ _ _ _ c.args.search.now.scratch.now c.args.at c.requires c.if-count-eq0.false _ _ c.join_all.result
-    c.join_all.ensures.0 _ (c.in_ok-lub.was ∙ ap Ok c.in-Some.is)
+    let r = law.still_resolved _ _ _ _ _ (law.first_listed c.args.ids.now _ _ c.in-Some.ensures.cases.0) c.args.search.now.scratch.now c.args.at 0
+    c.requires.0 _ _ c.join_all.result c.join_all.ensures.0 _ (c.in_ok-lub.was ∙ ap Ok c.in-Some-2.is) in
+    rw c.counts_of-counts.ensures (r.0.below, r.1)
 
 pub returns-then-not-all_materializable : goal.returns-then-not-all_materializable
 returns-then-not-all_materializable c =
     let k = c.join_all.ensures.1 in (
       λ ns. law.of_scratch _ _ (ap (λ (x : Stays). x.scratch) k) _ _ _ _ _ _ _
-          (law.not_materializable _ _ _ _ _ _ c.requires c.if-count-eq0.false _ _ c.join_all.result c.join_all.ensures.0 _
-          (c.in_ok-lub.was ∙ ap Ok c.in-Some.is) _ c.all_materializable.ensures c.if-not-all_materializable.true ns),
+          (law.not_materializable _ _ _ _ _ (law.first_listed c.args.ids.now _ _ c.in-Some.ensures.cases.0) _ _ _ c.requires.0 _ _
+          c.join_all.result c.join_all.ensures.0 _ (c.in_ok-lub.was ∙ ap Ok c.in-Some-2.is) _
+          (λ os. c.all_materializable.ensures (lent c.join_all.new.search.sorts.now os c.join_all.new.search.lengths) (refl, sym (ap (λ n. n.sorts) c.counts_of-counts.ensures))) c.if-not-all_materializable.true ns),
       ap (λ (x : Stays). x.kept) k,
       ap (λ (x : Stays). x.nodes) k,
     )
 
 pub put_heads-requires : goal.put_heads-requires
 put_heads-requires c =
-    law.still_resolved _ _ _ _ c.args.search.now.scratch.now c.args.at c.requires c.if-count-eq0.false _ _ c.join_all.result
-    c.join_all.ensures.0 _ (c.in_ok-lub.was ∙ ap Ok c.in-Some.is)
+    let r = law.still_resolved _ _ _ _ _ (law.first_listed c.args.ids.now _ _ c.in-Some.ensures.cases.0) c.args.search.now.scratch.now c.args.at 0
+    c.requires.0 _ _ c.join_all.result c.join_all.ensures.0 _ (c.in_ok-lub.was ∙ ap Ok c.in-Some-2.is) in
+    (rw c.counts_of-counts.ensures r.0.below, rw c.counts_of-counts.ensures r.1, omega (arith, c.requires.2))
 
 pub returns : goal.returns
 returns c =
     let k = c.join_all.ensures.1 in (
-      λ ns. law.they_agree _ _ _ _ _ _ c.requires c.if-count-eq0.false _ _ c.join_all.result c.join_all.ensures.0 _
-          (c.in_ok-lub.was ∙ ap Ok c.in-Some.is) _ c.all_materializable.ensures c.if-not-all_materializable.false _
-          (rw (ap (λ (x : Stays). x.scratch) k) at c.put_heads.ensures) ns,
+      λ ns. law.they_agree _ _ _ _ _ (law.first_listed c.args.ids.now _ _ c.in-Some.ensures.cases.0) _ _ _ c.requires.0 _ _
+          c.join_all.result c.join_all.ensures.0 _ (c.in_ok-lub.was ∙ ap Ok c.in-Some-2.is) _
+          (λ os. c.all_materializable.ensures (lent c.join_all.new.search.sorts.now os c.join_all.new.search.lengths) (refl, sym (ap (λ n. n.sorts) c.counts_of-counts.ensures))) c.if-not-all_materializable.false
+          (length_sort_numbers c.args.ids.now) (c.requires.1, c.requires.2) _
+          (rw (ap (λ (x : Stays). x.scratch) k, c.counts_of-counts.ensures) at c.put_heads.ensures) ns,
       ap (λ (x : Stays). x.kept) k,
       ap (λ (x : Stays). x.nodes) k,
     )

@@ -1,37 +1,43 @@
 -- Each answer is a law of Joining. Assumes nothing.
-use Rattle.std.proofs.Common.{refl, ap, ◌∙◌}
+use Rattle.std.proofs.Common.{refl, ap, ◌∙◌, arith}
 use Rattle.std.specs.Prelude.{Ok}
+use Rattle.resolved_sort.proofs.SortNumbers.{length_sort_numbers, get_d_sort_numbers}
 use Rattle.search_state.proofs.Solving.{no_room, not_some}
 use Rattle.search_join.proofs.Joining as law
+use Rattle.search_join.proofs.Lists.{inside}
 use Rattle.search_join.proofs.join_all.Goals as goal
 
-pub loop-i-init : goal.loop-i-init
-loop-i-init c = (law.start _ _ _ _ c.requires _ c.word.ensures, refl)
+pub loop-id-init : goal.loop-id-init
+loop-id-init c = (law.start _ _ _ _ c.requires, refl)
 
 pub join_of-requires : goal.join_of-requires
-join_of-requires c = law.asked _ _ _ _ _ _ _ _ c.loop-i.invariant.0 c.loop-i-test.true _ c.word-in-loop-i.ensures
+join_of-requires c =
+    law.asked _ _ _ _ _ _ _ _ c.loop-id.invariant.0 (inside c.args.rest.now c.loop-id-test.true) _ (get_d_sort_numbers c.args.rest.now c.loop-id.id-index)
 
 pub returns-in_err-joined : goal.returns-in_err-joined
 returns-in_err-joined c = (
   λ ns. rw (no_room c.from_residual.result _ c.from_residual.ensures (record {}))
-      (law.ends _ _ _ _ _ _ _ _ c.loop-i.invariant.0 c.loop-i-test.true _ c.word-in-loop-i.ensures _ _
+      (law.ends _ _ _ _ _ _ _ _ c.loop-id.invariant.0 (inside c.args.rest.now c.loop-id-test.true) _ (get_d_sort_numbers c.args.rest.now c.loop-id.id-index) _ _
       c.join_of.result c.join_of.ensures.0 _ c.in_err-joined.was ns),
-  c.join_of.ensures.1 ∙ c.loop-i.invariant.1,
+  c.join_of.ensures.1 ∙ c.loop-id.invariant.1,
 )
 
 pub returns-in_default : goal.returns-in_default
 returns-in_default c = (
-  law.stops _ _ _ _ _ _ _ _ c.loop-i.invariant.0 c.loop-i-test.true _ c.word-in-loop-i.ensures _ _
+  law.stops _ _ _ _ _ _ _ _ c.loop-id.invariant.0 (inside c.args.rest.now c.loop-id-test.true) _ (get_d_sort_numbers c.args.rest.now c.loop-id.id-index) _ _
       c.join_of.result c.join_of.ensures.0 (c.in_ok-joined.was ∙ ap Ok (not_some _ c.in_default.not-Some)),
-  c.join_of.ensures.1 ∙ c.loop-i.invariant.1,
+  c.join_of.ensures.1 ∙ c.loop-id.invariant.1,
 )
 
-pub loop-i-preserved : goal.loop-i-preserved
-loop-i-preserved c = (
-  law.next _ _ _ _ _ _ _ _ c.loop-i.invariant.0 c.loop-i-test.true _ c.word-in-loop-i.ensures _ _
-      c.join_of.result c.join_of.ensures.0 c.join_of.ensures.2 _ (c.in_ok-joined.was ∙ ap Ok c.in-Some.is),
-  c.join_of.ensures.1 ∙ c.loop-i.invariant.1,
+pub loop-id-preserved : goal.loop-id-preserved
+loop-id-preserved c = (
+  law.next _ _ _ _ _ _ _ _ c.loop-id.invariant.0 (inside c.args.rest.now c.loop-id-test.true) _ (get_d_sort_numbers c.args.rest.now c.loop-id.id-index) _ _
+      c.join_of.result c.join_of.ensures.0 _ (c.in_ok-joined.was ∙ ap Ok c.in-Some.is),
+  c.join_of.ensures.1 ∙ c.loop-id.invariant.1,
 )
 
 pub returns : goal.returns
-returns c = (law.all_joined _ _ _ _ _ _ _ _ c.loop-i.invariant.0 c.loop-i-test.false _ refl, c.loop-i.invariant.1)
+returns c = (
+  law.all_joined _ _ _ _ _ _ _ _ c.loop-id.invariant.0 (omega (arith, c.loop-id-test.false, length_sort_numbers c.args.rest.now)) _ refl,
+  c.loop-id.invariant.1,
+)

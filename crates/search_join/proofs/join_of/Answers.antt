@@ -1,14 +1,20 @@
 -- By the law of its answer, whatever the nodes are. Assumes nothing.
-use Rattle.std.proofs.Common.{ap, ◌∙◌, length}
+use Rattle.std.proofs.Common.{rules, refl}
+use Rattle.std.specs.Prelude.{Ok}
+use Rattle.search_state.proofs.Solving.{no_room}
 use Rattle.search_join.proofs.Answers as law
 use Rattle.search_join.proofs.join_of.Goals as goal
 
+pub returns-in_err-sort : goal.returns-in_err-sort
+returns-in_err-sort c = (
+  λ ns. law.made_moved c.join.new.sorts.words.now _ (search rules) _ _ _ _ (rw (no_room c.from_residual.result _ c.from_residual.ensures (record {}))
+      (law.join_ends _ ns _ _ c.counts_of.ensures _ _ _ _ _ c.join.ensures.left _ c.in_err-sort.was _)),
+  refl,
+)
+
 pub returns : goal.returns
-returns c =
-    let m = c.made_from.ensures in
-    let s = c.args.search.now in (
-      λ ns. rw m.2 (law.join_made s.sorts.now ns s.lengths _ _ _ c.join-joined.result _ _ m.1 m.0
-          (law.with_counts_of _ s.lengths _ c.counts_of-counts.ensures _ _ _ _ c.join-joined.ensures)),
-      m.3,
-      ap length m.2 ∙ c.join-joined.auto.sorts,
-    )
+returns c = (
+  λ ns. law.made_moved c.join.new.sorts.words.now c.search-2-1.given.0 (search rules) _ _ (Ok c.in_ok-sort.sort) _
+      (law.join_found _ ns _ _ c.counts_of.ensures _ _ _ _ _ c.join.ensures.left _ c.in_ok-sort.was _ c.with_counts-search.ensures),
+  refl,
+)

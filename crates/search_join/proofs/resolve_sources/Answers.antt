@@ -1,6 +1,8 @@
 -- Each answer is a law of Resolving. Assumes nothing.
-use Rattle.std.proofs.Common.{true, false, ap, ◌∙◌}
+use Rattle.std.proofs.Common.{true, false, ap, ◌∙◌, arith}
 use Rattle.std.specs.Prelude.{Ok}
+use Rattle.resolved_sort.specs.Inner.Storage.{sort_numbers}
+use Rattle.resolved_sort.proofs.SortNumbers.{length_sort_numbers, set_sort_numbers}
 use Rattle.search_state.specs.Inner.Solving.{Stays}
 use Rattle.search_state.proofs.Solving.{no_room, not_some}
 use Rattle.search_join.proofs.Resolving as law
@@ -8,7 +10,7 @@ use Rattle.search_join.proofs.resolve_sources.Goals as goal
 
 pub sort_of-requires : goal.sort_of-requires
 sort_of-requires c =
-    law.source_ready _ _ _ _ _ _ _ _ _ _ _ _ c.loop-i.invariant.0 c.loop-i-test.true _ c.source_at-source.ensures
+    let r = law.source_ready _ _ _ _ _ _ _ _ _ _ _ _ c.loop-i.invariant.0 c.loop-i-test.true _ c.source_at-source.ensures in (r.0, tt, r.1)
 
 pub returns-in_err-sort : goal.returns-in_err-sort
 returns-in_err-sort c =
@@ -24,11 +26,15 @@ pub returns-in_default : goal.returns-in_default
 returns-in_default c =
     let k = c.loop-i.invariant.1 in (
       law.as_entered _ _ _ _ _ _ (ap (λ (x : Stays). x.nodes) k) (ap (λ (x : Stays). x.kept.binds) k) (ap (λ (x : Stays). x.kept.given.lists) k)
-          _ _ _ _ c.sort_of.new.search.sorts.now c.loop-i.ids c.sort_of.new.search.lengths (Ok false)
+          _ _ _ _ c.sort_of.new.search.sorts.now (sort_numbers c.loop-i.ids) c.sort_of.new.search.lengths (Ok false)
           (law.stops _ _ _ _ _ _ _ _ _ _ _ _ c.loop-i.invariant.0 c.loop-i-test.true _ c.source_at-source.ensures _ _
           c.sort_of.result c.sort_of.ensures.0 (c.in_ok-sort.was ∙ ap Ok (not_some _ c.in_default.not-Some))),
       c.sort_of.ensures.1 ∙ k,
     )
+
+pub bounds-ids-i : goal.bounds-ids-i
+bounds-ids-i c =
+    omega (arith, c.loop-i-test.true, c.loop-i.invariant.0.many, c.loop-i.invariant.0.entered.room, length_sort_numbers c.loop-i.ids)
 
 pub loop-i-preserved : goal.loop-i-preserved
 loop-i-preserved c =
@@ -36,7 +42,7 @@ loop-i-preserved c =
       law.going_as _ _ _ _ _ _ (ap (λ (x : Stays). x.nodes) k) (ap (λ (x : Stays). x.kept.binds) k) (ap (λ (x : Stays). x.kept.given.lists) k)
           _ _ _ _ _ _ _ _ _
           (law.next _ _ _ _ _ _ _ _ _ _ _ _ c.loop-i.invariant.0 c.loop-i-test.true _ c.source_at-source.ensures _ _
-          c.sort_of.result c.sort_of.ensures.0 _ (c.in_ok-sort.was ∙ ap Ok c.in-Some.is) _ c.put.ensures),
+          c.sort_of.result c.sort_of.ensures.0 _ (c.in_ok-sort.was ∙ ap Ok c.in-Some.is) _ (set_sort_numbers c.loop-i.ids c.loop-i.i c.in-Some.sort)),
       k ∙ c.loop-i.invariant.1,
     )
 
@@ -44,6 +50,6 @@ pub returns : goal.returns
 returns c =
     let k = c.loop-i.invariant.1 in (
       law.as_entered _ _ _ _ _ _ (ap (λ (x : Stays). x.nodes) k) (ap (λ (x : Stays). x.kept.binds) k) (ap (λ (x : Stays). x.kept.given.lists) k)
-          _ _ _ _ c.loop-i.search.sorts.now c.loop-i.ids c.loop-i.search.lengths (Ok true) (law.all_made _ _ _ _ _ _ _ _ _ _ _ _ c.loop-i.invariant.0 c.loop-i-test.false),
+          _ _ _ _ c.loop-i.search.sorts.now (sort_numbers c.loop-i.ids) c.loop-i.search.lengths (Ok true) (law.all_made _ _ _ _ _ _ _ _ _ _ _ _ c.loop-i.invariant.0 c.loop-i-test.false),
       k,
     )

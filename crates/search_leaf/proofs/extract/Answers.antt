@@ -1,40 +1,51 @@
 -- Each step and each end of the loop by the laws of reading out. Assumes nothing.
-use Rattle.std.proofs.Common.{ap}
-use Rattle.search_state.specs.Inner.Solving.{Kept}
+use Rattle.std.proofs.Common.{ap, ◌∙◌}
+use Rattle.std.specs.Prelude.{Ok}
+use Rattle.search_state.specs.Inner.Solving.{Kept, Stays}
+use Rattle.search_state.proofs.Solving.{no_room, not_some}
 use Rattle.search_leaf.proofs.Readings as law
 use Rattle.search_leaf.proofs.extract.Goals as goal
 
-pub resolve_or_default-requires : goal.resolve_or_default-requires
-resolve_or_default-requires c =
+pub sort_of-requires : goal.sort_of-requires
+sort_of-requires c =
     law.asked _ _ _ _ _ _ _ _ _ _ _ _ c.loop-i.invariant.0 c.loop-i-test.true _ c.word.ensures
 
-pub returns-in-Nothing : goal.returns-in-Nothing
-returns-in-Nothing c =
-    let k = c.loop-i.invariant.1 in (
-      law.as_entered _ _ _ _ _ _ c.loop-i.invariant.2 (ap (λ (x : Kept). x.binds) k) (ap (λ (x : Kept). x.given.lists) k)
-          _ _ _ _ _ _ _ _ _ (law.stops _ _ _ _ _ _ _ _ _ _ _ _ c.loop-i.invariant.0 c.loop-i-test.true _ c.word.ensures
-          _ c.resolve_or_default.result c.resolve_or_default.ensures _ c.in-Nothing.is _ c.with_counts-search-in-Nothing.ensures),
-      k,
-      c.loop-i.invariant.2,
+pub returns-in_err-id : goal.returns-in_err-id
+returns-in_err-id c =
+    let k = c.loop-i.invariant.1 in
+    let o = c.sort_of.ensures.1 in (
+      law.of_scratch _ _ (ap (λ (x : Stays). x.scratch) o) _ _ _ _ _ _ _ _
+          (law.as_entered _ _ _ _ _ _ c.loop-i.invariant.2 (ap (λ (x : Kept). x.binds) k) (ap (λ (x : Kept). x.given.lists) k)
+          _ _ _ _ _ _ _ _ _ (rw (no_room c.from_residual.result _ c.from_residual.ensures (record {}))
+          (law.ends _ _ _ _ _ _ _ _ _ _ _ _ c.loop-i.invariant.0 c.loop-i-test.true _ c.word.ensures
+          _ _ c.sort_of.result c.sort_of.ensures.0 _ c.in_err-id.was))),
+      ap (λ (x : Stays). x.kept) o ∙ k,
+      ap (λ (x : Stays). x.nodes) o ∙ c.loop-i.invariant.2,
     )
 
-pub returns-in-Full : goal.returns-in-Full
-returns-in-Full c =
-    let k = c.loop-i.invariant.1 in (
-      law.as_entered _ _ _ _ _ _ c.loop-i.invariant.2 (ap (λ (x : Kept). x.binds) k) (ap (λ (x : Kept). x.given.lists) k)
-          _ _ _ _ _ _ _ _ _ (law.ends _ _ _ _ _ _ _ _ _ _ _ _ c.loop-i.invariant.0 c.loop-i-test.true _ c.word.ensures
-          _ c.resolve_or_default.result c.resolve_or_default.ensures c.in-Full.is _),
-      k,
-      c.loop-i.invariant.2,
+pub returns-in_default : goal.returns-in_default
+returns-in_default c =
+    let k = c.loop-i.invariant.1 in
+    let o = c.sort_of.ensures.1 in (
+      law.of_scratch _ _ (ap (λ (x : Stays). x.scratch) o) _ _ _ _ _ _ _ _
+          (law.as_entered _ _ _ _ _ _ c.loop-i.invariant.2 (ap (λ (x : Kept). x.binds) k) (ap (λ (x : Kept). x.given.lists) k)
+          _ _ _ _ _ _ _ _ _
+          (law.stops _ _ _ _ _ _ _ _ _ _ _ _ c.loop-i.invariant.0 c.loop-i-test.true _ c.word.ensures
+          _ _ c.sort_of.result c.sort_of.ensures.0 (c.in_ok-id.was ∙ ap Ok (not_some _ c.in_default.not-Some)))),
+      ap (λ (x : Stays). x.kept) o ∙ k,
+      ap (λ (x : Stays). x.nodes) o ∙ c.loop-i.invariant.2,
     )
 
 pub loop-i-preserved : goal.loop-i-preserved
-loop-i-preserved c = (
-  law.next _ _ _ _ _ _ _ _ _ _ _ _ c.loop-i.invariant.0 c.loop-i-test.true _ c.word.ensures
-      _ c.resolve_or_default.result c.resolve_or_default.ensures _ _ c.in-At.is _ c.with_counts-search.ensures _ c.put.ensures,
-  c.loop-i.invariant.1,
-  c.loop-i.invariant.2,
-)
+loop-i-preserved c =
+    let o = c.sort_of.ensures.1 in (
+      law.going_as _ _ _ _ _ _ (ap (λ (x : Stays). x.nodes) o) (ap (λ (x : Stays). x.kept.binds) o) (ap (λ (x : Stays). x.kept.given.lists) o)
+          _ _ _ _ _ _ _ _ _
+          (law.next _ _ _ _ _ _ _ _ _ _ _ _ c.loop-i.invariant.0 c.loop-i-test.true _ c.word.ensures
+          _ _ c.sort_of.result c.sort_of.ensures.0 _ (c.in_ok-id.was ∙ ap Ok c.in-Some.is) _ (rw (ap (λ (x : Stays). x.scratch) o) at c.put.ensures)),
+      ap (λ (x : Stays). x.kept) o ∙ c.loop-i.invariant.1,
+      ap (λ (x : Stays). x.nodes) o ∙ c.loop-i.invariant.2,
+    )
 
 pub returns : goal.returns
 returns c =

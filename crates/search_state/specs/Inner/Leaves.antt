@@ -9,14 +9,13 @@ use Rattle.resolved_sort.specs.declared.NoRoom.{NoRoom}
 use Rattle.std.proofs.Math.Option.{Option, none, some}
 use Rattle.resolved_sort.specs.Tree.{unit, primitive, def, typevar}
 use Rattle.unification.specs.declared.Lengths.{Lengths}
-use Rattle.unification.specs.declared.Tried.{Tried}
 use Rattle.unification.specs.declared.Full.{Full}
 use Rattle.unification.specs.declared.Full.TheVariants.{Sorts, Nodes}
 use Rattle.unification.specs.Term.{flat_head, container_head, function_head, stray_head, Shape, variable, over}
 use Rattle.unification.specs.Nodes.{Binds}
 use Rattle.unification.specs.Unify.{Unifies, and_then as after-yes, follow, deep, unify}
 use Rattle.unification.specs.Checked.{Placed}
-use Rattle.unification.specs.Trail.{TryLeaves as Tried-so}
+use Rattle.unification.specs.Trail.{UnifyLeaves}
 use Rattle.unification.specs.Making.{Lent, Makes, made, no_list, no_room, ◌and-then◌, strict_related}
 use Rattle.unification.specs.Inner.Making.{lent}
 use Rattle.inference.specs.declared.LitKind.{LitKind}
@@ -33,7 +32,6 @@ use Rattle.search_state.specs.declared.Pairs.{Pairs}
 use Rattle.search_state.specs.declared.Pairs.TheVariants.{One, Two}
 use Rattle.search_state.specs.declared.Step.{Step}
 use Rattle.search_state.specs.declared.Step.TheVariants.{Nothing, Component, Written, Choice}
-use Rattle.search_state.specs.declared.Four.{Four}
 use Rattle.search_state.specs.declared.Tries.{Tries}
 use Rattle.search_state.specs.declared.LitAt.{LitAt}
 use Rattle.search_state.specs.declared.LitAt.TheVariants.{Number, Free, Other}
@@ -55,10 +53,19 @@ abbrev pub PairsPlaced : Lengths → Pairs → Type 0
 PairsPlaced k (One l r) = Placed k l.0 × Placed k r.0
 PairsPlaced k (Two l r p q) = Placed k l.0 × Placed k r.0 × Placed k p.0 × Placed k q.0
 
+-- how many variables are on the trail after a try from c of them, which is undone after a no; and whether it is a yes
+abbrev pub trail_after : ℕ → Optional ℕ → ℕ
+trail_after c (Some d) = d
+trail_after c None = c
+
+abbrev pub is_made : Optional ℕ → Bool
+is_made (Some d) = true
+is_made None = false
+
 -- a try with the trail at the front of the scratch, of which nothing else changes
 pub record TriesPairs (ws ns : List ℕ) (k : Lengths) (U : Unifies) (bs sc : List ℕ) (c : ℕ) (bs' sc' : List ℕ)
-    (r : Tried) : Type 0 where
-  pub tries : Tried-so ws ns k U bs (take trail_words sc) c bs' (take trail_words sc') r
+    (r : Optional ℕ) : Type 0 where
+  pub tries : UnifyLeaves ws ns k U bs (take trail_words sc) c bs' (take trail_words sc') (trail_after c r) (is_made r)
   pub rest : drop trail_words sc' ≡ drop trail_words sc
   pub long : length sc' ≡ length sc
 
@@ -94,15 +101,15 @@ path_after ls z sc e (Component c) C = with_components (path_of ls z C sc e) (c 
 path_after ls z sc e (Written n) C = with_components (path_of ls z C sc e) (part (measure_at + e.measure) n sc) C
 path_after ls z sc e (Choice i) C = with_choice (path_of ls z C sc e) (get_or (chosen_exprs ls z) e.choices 0) i C
 
--- the j-th of tries, and those from it on
-abbrev pub places_of : Four → List ℕ
-places_of f = f.0.0 ∷ f.1.0 ∷ f.2.0 ∷ f.3.0 ∷ []
+-- the place of the j-th of tries, that try, and those from it on
+abbrev pub place_at : Tries → ℕ → ℕ
+place_at t j = (get_or t.ids j (record { 0 = 0 })).0
 
 unfoldable pub try_at : Tries → ℕ → Try
 try_at t j =
     cond t.up
-    (record { left = get_or (places_of t.ids) j 0; right = t.other.0; component = t.first + j })
-    (record { left = t.other.0; right = get_or (places_of t.ids) j 0; component = t.first + j })
+    (record { left = place_at t j; right = t.other.0; component = t.first + j })
+    (record { left = t.other.0; right = place_at t j; component = t.first + j })
 
 abbrev pub tries_from : Tries → ℕ → List Try
 tries_from t j = rows_from (try_at t) j (t.count - j)
