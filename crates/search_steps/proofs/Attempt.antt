@@ -9,12 +9,11 @@ use native.Mathlib.Numerals.{add-one}
 use native.Mathlib.Omega.{arith}
 use lib.ListN.{length, get_or, set, take, drop, length-set, length-drop}
 use lib.Seq.{length-take-le, take-take, take-set-le, drop-drop}
-use Rattle.unification.specs.declared.Tried.{Tried}
-use Rattle.unification.specs.declared.Tried.TheVariants.{Yes, No}
+use Rattle.std.specs.Prelude.{Option as Found, Some, None}
 use Rattle.unification.specs.Nodes.{Binds, binds_of}
 use Rattle.unification.specs.Unify.{Unifies, yes_with, no_way}
 use Rattle.unification.specs.Checked.{graph_of}
-use Rattle.unification.specs.Trail.{undo, count_of, answer_of}
+use Rattle.unification.specs.Trail.{undo, answer_by}
 use Rattle.unifier.specs.Inner.Trying.{Trying}
 use Rattle.unifier.proofs.Words.{undo_front}
 use Rattle.unifier.proofs.Tries.{binds_nothing}
@@ -35,7 +34,7 @@ use Rattle.search_state.specs.Inner.Memory.{problem_in, chosen_exprs, trail_word
 use Rattle.search_state.specs.Inner.Memory.{best_measure_at, choices_at, best_choices_at, scratch_used, choices_of, path_of}
 use Rattle.search_state.specs.Inner.Memory.{candidate_of, best_of, world_of, out_of, next_of}
 use Rattle.words.specs.Words.{part}
-use Rattle.search_state.specs.Inner.Leaves.{unify_pairs, TriesPairs, step_words, added_components, added_choices, branch_after, path_after}
+use Rattle.search_state.specs.Inner.Leaves.{unify_pairs, trail_after, is_made, TriesPairs, step_words, added_components, added_choices, branch_after, path_after}
 use Rattle.search_state.specs.Inner.Searching.{Sized, Searching, next_constraints, next_components, exprs_of, Done, Comes, trying}
 use Rattle.words.proofs.Parts.{length_part, take_part, part_append, part_set_end, part_set_before, part_set_after, part_in_back, take_shorter}
 use Rattle.search_state.proofs.Parts.{nothing_chosen}
@@ -259,7 +258,7 @@ module _ (ls : List ℕ) (z : Sizes) (ws ns bs sc : List ℕ) (k : State) (e : B
   choices_longer (Written m) d = omega arith
   choices_longer (Choice i) d = omega arith
 
-  module _ (U : Unifies) (bs₁ sc₁ : List ℕ) (t : Tried) (u : TriesPairs ws ns k.lengths U bs sc e.trail bs₁ sc₁ t) where
+  module _ (U : Unifies) (bs₁ sc₁ : List ℕ) (t : Found ℕ) (u : TriesPairs ws ns k.lengths U bs sc e.trail bs₁ sc₁ t) where
     abbrev v : ℕ
     v = k.lengths.variables
 
@@ -271,7 +270,7 @@ module _ (ls : List ℕ) (z : Sizes) (ws ns bs sc : List ℕ) (k : State) (e : B
     long₁ = omega (arith, S.long, u.long)
 
     -- so many on the trail
-    pub on_the_trail : (e.trail ≤ count_of t) × (count_of t ≤ trail_words)
+    pub on_the_trail : (e.trail ≤ trail_after e.trail t) × (trail_after e.trail t ≤ trail_words)
     on_the_trail = (u.tries.longer, omega (arith, u.tries.spent, S.trail))
 
     front₁ : (n : ℕ) → n ≤ e.trail → take n sc₁ ≡ take n sc
@@ -281,19 +280,22 @@ module _ (ls : List ℕ) (z : Sizes) (ws ns bs sc : List ℕ) (k : State) (e : B
         ∙ (take_shorter n e.trail (take trail_words sc) (take trail_words sc₁) l u.tries.front ∙ take-take n trail_words sc (omega (arith, l, m)))
 
     -- undoing a trail that has the try's variables gives the bindings back
-    pub freed_again : (sc₃ : List ℕ) → take (count_of t) sc₃ ≡ take (count_of t) sc₁ → undo sc₃ e.trail (count_of t - e.trail) bs₁ ≡ bs
+    pub freed_again : (sc₃ : List ℕ) → take (trail_after e.trail t) sc₃ ≡ take (trail_after e.trail t) sc₁ → undo sc₃ e.trail (trail_after e.trail t - e.trail) bs₁ ≡ bs
     freed_again sc₃ q =
-        undo_front sc₃ (take trail_words sc₁) e.trail (count_of t - e.trail) (count_of t) bs₁ (omega (arith, on_the_trail.0))
-        (q ∙ sym (take-take (count_of t) trail_words sc₁ on_the_trail.1))
+        undo_front sc₃ (take trail_words sc₁) e.trail (trail_after e.trail t - e.trail) (trail_after e.trail t) bs₁ (omega (arith, on_the_trail.0))
+        (q ∙ sym (take-take (trail_after e.trail t) trail_words sc₁ on_the_trail.1))
         ∙ u.tries.undone
 
-    pub tried_no : (d : ℕ) → t ≡ No d → (bs₂ : List ℕ) → bs₂ ≡ undo sc₁ e.trail (d - e.trail) bs₁ → Done ls z ws ns bs sc k e tried ws ns bs₂ sc₁ (Missed k)
-    tried_no d q bs₂ b =
+    pub tried_no : t ≡ None → Done ls z ws ns bs sc k e tried ws ns bs₁ sc₁ (Missed k)
+    unfolding undo
+    tried_no q =
         record {
           says = (λ i. missed_with (best_same ls z sc sc₁ u.rest k.best k.tied i)) ∙ sym
               (ap (λ x. on_yes x (λ C. next_of ls z next (path_after ls z sc e s C)) (world_of ls z ws ns sc k)) no);
           grown = sorts_only_refl (lent ws ns k.lengths) S.ready.nodes;
-          binds = b ∙ (ap (λ n. undo sc₁ e.trail (n - e.trail) bs₁) (sym (ap count_of q)) ∙ freed_again sc₁ refl);
+          binds =
+              ap (λ (n : ℕ). undo sc₁ e.trail n bs₁) (let y : 0 ≡ trail_after e.trail t - e.trail = omega (arith, ap (trail_after e.trail) q) in y)
+              ∙ freed_again sc₁ refl;
           path =
               record {
                 trail = front₁ e.trail (omega arith);
@@ -304,17 +306,17 @@ module _ (ls : List ℕ) (z : Sizes) (ws ns bs sc : List ℕ) (k : State) (e : B
         }
       where
         no : U ≡ no_way
-        no = u.tries.says ∙ ap (λ r. answer_of r (binds_of bs₁ v)) q
+        no = u.tries.says ∙ ap (λ r. answer_by (is_made r) (binds_of bs₁ v)) q
 
         missed_with : Option Candidate → Out (Unit {0})
         missed_with b = missed (record { lent = lent ws ns k.lengths; best = b; met = tt })
 
-    module _ (d : ℕ) (q : t ≡ Yes d) (sc₂ : List ℕ) (e₂ : Branch) (w : sc₂ ≡ step_words s e sc₁) (a : e₂ ≡ branch_after e d s) where
-      count : count_of t ≡ d
-      count = ap count_of q
+    module _ (d : ℕ) (q : t ≡ Some d) (sc₂ : List ℕ) (e₂ : Branch) (w : sc₂ ≡ step_words s e sc₁) (a : e₂ ≡ branch_after e d s) where
+      count : trail_after e.trail t ≡ d
+      count = ap (trail_after e.trail) q
 
       yes : U ≡ yes_with (binds_of bs₁ v)
-      yes = u.tries.says ∙ ap (λ r. answer_of r (binds_of bs₁ v)) q
+      yes = u.tries.says ∙ ap (λ r. answer_by (is_made r) (binds_of bs₁ v)) q
 
       trail₂ : e₂.trail ≡ d
       trail₂ = ap (λ (x : Branch). x.trail) a ∙ trail_of s d
@@ -357,7 +359,7 @@ module _ (ls : List ℕ) (z : Sizes) (ws ns bs sc : List ℕ) (k : State) (e : B
               binds =
                   b
                   ∙ (ap₂ (λ n xs. undo sc₃ e.trail (n - e.trail) xs) (sym count) c.binds
-                  ∙ freed_again sc₃ (front₃ (count_of t) (omega (arith, count))));
+                  ∙ freed_again sc₃ (front₃ (trail_after e.trail t) (omega (arith, count))));
               path =
                   record {
                     trail = front₃ e.trail (omega (arith, count, on_the_trail.0)) ∙ front₁ e.trail (omega arith);
@@ -382,14 +384,13 @@ module _ (ls : List ℕ) (z : Sizes) (ws ns bs sc : List ℕ) (k : State) (e : B
             longer_choices = subst (λ (x : Branch). e.choices ≤ x.choices) (sym a) (choices_longer s d)
 
   -- the same of the places of a try
-  module _ (pairs : Pairs) (bs₁ sc₁ : List ℕ) (t : Tried)
+  module _ (pairs : Pairs) (bs₁ sc₁ : List ℕ) (t : Found ℕ)
       (u : TriesPairs ws ns k.lengths (unify_pairs (graph_of ws ns k.lengths) pairs (binds_of bs k.lengths.variables)) bs sc e.trail bs₁ sc₁ t) where
-    pub attempt_no : (d : ℕ) → t ≡ No d → (bs₂ : List ℕ) → bs₂ ≡ undo sc₁ e.trail (d - e.trail) bs₁
-        → Comes ls z ws ns bs sc k e (trying ls z sc e pairs s next) ws ns bs₂ sc₁ (Missed k)
+    pub attempt_no : t ≡ None → Comes ls z ws ns bs sc k e (trying ls z sc e pairs s next) ws ns bs₁ sc₁ (Missed k)
     unfolding trying
     attempt_no = tried_no _ bs₁ sc₁ t u
 
-    pub attempt_yes : (d : ℕ) → t ≡ Yes d → (sc₂ : List ℕ) (e₂ : Branch) → sc₂ ≡ step_words s e sc₁
+    pub attempt_yes : (d : ℕ) → t ≡ Some d → (sc₂ : List ℕ) (e₂ : Branch) → sc₂ ≡ step_words s e sc₁
         → e₂ ≡ branch_after e d s → (ws₃ ns₃ bs₃ sc₃ : List ℕ) (r : Answer)
         → Comes ls z ws ns bs₁ sc₂ k e₂ (next_of ls z next) ws₃ ns₃ bs₃ sc₃ r → (bs₄ : List ℕ) → bs₄ ≡ undo sc₃ e.trail (d - e.trail) bs₃
         → Comes ls z ws ns bs sc k e (trying ls z sc e pairs s next) ws₃ ns₃ bs₄ sc₃ r
@@ -397,24 +398,24 @@ module _ (ls : List ℕ) (z : Sizes) (ws ns bs sc : List ℕ) (k : State) (e : B
     attempt_yes = tried_yes _ bs₁ sc₁ t u
 
   -- the room that the functions called ask for
-  module _ (U : Unifies) (bs₁ sc₁ : List ℕ) (t : Tried) (u : TriesPairs ws ns k.lengths U bs sc e.trail bs₁ sc₁ t) where
+  module _ (U : Unifies) (bs₁ sc₁ : List ℕ) (t : Found ℕ) (u : TriesPairs ws ns k.lengths U bs sc e.trail bs₁ sc₁ t) where
     pub push_room : (e.measure + added_components s ≤ 256) × (e.choices + added_choices s ≤ 256) × (scratch_used ≤ length sc₁)
     push_room = (room.0, room.1, omega (arith, S.long, u.long))
 
-    pub undo_room : (d : ℕ) → count_of t ≡ d → (sc₃ : List ℕ) → length sc₃ ≡ length sc → (e.trail ≤ d) × (d ≤ length sc₃)
+    pub undo_room : (d : ℕ) → trail_after e.trail t ≡ d → (sc₃ : List ℕ) → length sc₃ ≡ length sc → (e.trail ≤ d) × (d ≤ length sc₃)
     undo_room d q sc₃ l = let x = on_the_trail U bs₁ sc₁ t u in (omega (arith, x.0, q), omega (arith, x.1, q, l, S.long))
 
   -- nothing made equal, and on with a step
-  nothing_bound : TriesPairs ws ns k.lengths (yes_with (binds_of bs k.lengths.variables)) bs sc e.trail bs sc (Yes e.trail)
+  nothing_bound : TriesPairs ws ns k.lengths (yes_with (binds_of bs k.lengths.variables)) bs sc e.trail bs sc (Some e.trail)
   nothing_bound = record { tries = binds_nothing ws ns k.lengths bs (take trail_words sc) e.trail S.ready; rest = refl; long = refl }
 
   pub goes_with : (sc₂ : List ℕ) (e₂ : Branch) → sc₂ ≡ step_words s e sc → e₂ ≡ branch_after e e.trail s → Searching ws ns bs sc₂ ls z k e₂ 0 [] next
-  goes_with sc₂ e₂ = goes_on (yes_with (binds_of bs k.lengths.variables)) bs sc (Yes e.trail) nothing_bound e.trail refl sc₂ e₂
+  goes_with sc₂ e₂ = goes_on (yes_with (binds_of bs k.lengths.variables)) bs sc (Some e.trail) nothing_bound e.trail refl sc₂ e₂
 
   pub went_with : (sc₂ : List ℕ) (e₂ : Branch) → sc₂ ≡ step_words s e sc → e₂ ≡ branch_after e e.trail s → (ws₃ ns₃ bs₃ sc₃ : List ℕ) (r : Answer)
       → Comes ls z ws ns bs sc₂ k e₂ (next_of ls z next) ws₃ ns₃ bs₃ sc₃ r
       → Done ls z ws ns bs sc k e (next_of ls z next (path_after ls z sc e s (binds_of bs k.lengths.variables)) (world_of ls z ws ns sc k)) ws₃ ns₃ bs₃ sc₃ r
   unfolding undo
   went_with sc₂ e₂ w a ws₃ ns₃ bs₃ sc₃ r c =
-      tried_yes (yes_with (binds_of bs k.lengths.variables)) bs sc (Yes e.trail) nothing_bound e.trail refl sc₂ e₂ w a ws₃ ns₃ bs₃ sc₃ r c bs₃
+      tried_yes (yes_with (binds_of bs k.lengths.variables)) bs sc (Some e.trail) nothing_bound e.trail refl sc₂ e₂ w a ws₃ ns₃ bs₃ sc₃ r c bs₃
       (sym (ap (λ n. undo sc₃ e.trail n bs₃) (let q : e.trail - e.trail ≡ 0 = omega arith in q)))

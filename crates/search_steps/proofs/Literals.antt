@@ -1,22 +1,17 @@
 -- A literal, as the code meets it: the number sorts to try, and what stands at the end of its place, by the row there. Assumes nothing.
 use mathlib.Core.Path.{◌≡◌, refl, ap, sym, ◌∙◌}
 use mathlib.Core.Bool.{false}
-use mathlib.Core.List.{List, [], ◌∷◌}
-use mathlib.Core.Option.{Option, none, some}
+use mathlib.Core.List.{List}
+use mathlib.Core.Option.{some}
 use Prim.Native.Nat.{ℕ, zero, suc, ◌-◌, ◌<◌, ◌≤◌}
 use native.Mathlib.Omega.{arith}
-use lib.ListN.{get_or}
-use Rattle.resolved_sort.specs.declared.Run.{Run}
 use Rattle.resolved_sort.specs.declared.Sort.{Sort}
-use Rattle.resolved_sort.specs.declared.ComplexSort.{ComplexSort}
 use Rattle.resolved_sort.specs.declared.ResolvedSort.{ResolvedSort}
 use Rattle.resolved_sort.specs.declared.ResolvedSort.TheVariants.{Unit as UnitRow, Primitive, Container, Function as SortFunction, Def, TypeVar}
 use Rattle.resolved_sort.specs.Tree.{family, level}
 use Rattle.resolved_sort.specs.Storage.{max_sorts, row_at}
-use Rattle.resolved_sort.proofs.Reached.{no_confusion}
-use Rattle.sort_order.specs.declared.lent.Amount.{Amount}
-use Rattle.sort_order.specs.declared.lent.Amount.TheVariants.{Of, Nothing}
-use Rattle.sort_order.specs.Older.{amount_of, generality}
+use Rattle.std.specs.Prelude.{Option as Answer, Some, None}
+use Rattle.sort_order.specs.Inner.Answers.{generality}
 use Rattle.unification.specs.declared.InferSortId.{InferSortId}
 use Rattle.unification.specs.declared.SortVar.{SortVar}
 use Rattle.unification.specs.declared.Lengths.{Lengths}
@@ -36,17 +31,17 @@ use Rattle.search_state.specs.declared.LitAt.{LitAt}
 use Rattle.search_state.specs.declared.LitAt.TheVariants.{Number, Free, Other}
 use Rattle.search_state.specs.Inner.Leaves.{try_at, lit_number, lit_shape, lit_end, lit_at}
 use Rattle.search_steps.specs.Inner.Steps.{lit_row, LitTries}
-use Rattle.search_steps.proofs.Laws.{four_of}
+use Rattle.search_steps.proofs.Laws.{four_of, nth}
 
 -- the number sorts for a literal
-positive_places : (j : ℕ) → j < 4 → get_or (2 ∷ 3 ∷ 4 ∷ 5 ∷ []) j 0 < 6
+positive_places : (j : ℕ) → j < 4 → nth (four_of 2 3 4 5) j < 6
 positive_places zero l = omega arith
 positive_places (suc zero) l = omega arith
 positive_places (suc (suc zero)) l = omega arith
 positive_places (suc (suc (suc zero))) l = omega arith
 positive_places (suc (suc (suc (suc j)))) l = absurd (omega (arith, l))
 
-natural_places : (j : ℕ) → j < 3 → get_or (3 ∷ 4 ∷ 5 ∷ 0 ∷ []) j 0 < 6
+natural_places : (j : ℕ) → j < 3 → nth (four_of 3 4 5 0) j < 6
 natural_places zero l = omega arith
 natural_places (suc zero) l = omega arith
 natural_places (suc (suc zero)) l = omega arith
@@ -62,69 +57,57 @@ module _ (kind : LitKind) (id : InferSortId) where
   natural_tries e = rw e (record { says = refl; few = omega arith; first = omega arith; places = natural_places; other = refl })
 
 -- at a number sort its generality, but never 0 for a natural literal
-positive_component : (s : Sort) → lit_component Positive s ≡ generality s
-unfolding generality family level lit_component
-positive_component Sort.Bool = refl
-positive_component Sort.Pos = refl
-positive_component Sort.Nat = refl
-positive_component Sort.Int = refl
-positive_component Sort.Real = refl
+abbrev pub lit_of : LitKind → Answer ℕ → LitAt
+lit_of k None = Other
+lit_of Positive (Some g) = Number g
+lit_of Natural (Some zero) = Other
+lit_of Natural (Some (suc g)) = Number (suc g)
 
-abbrev above_zero : Option ℕ → Option ℕ
-above_zero none = none
-above_zero (some zero) = none
-above_zero (some (suc g)) = some (suc g)
+lit_is : (k : LitKind) (s : Sort) → lit_of k (generality s) ≡ lit_number (lit_component k s)
+unfolding family level lit_component
+lit_is Positive Sort.Bool = refl
+lit_is Positive Sort.Pos = refl
+lit_is Positive Sort.Nat = refl
+lit_is Positive Sort.Int = refl
+lit_is Positive Sort.Real = refl
+lit_is Natural Sort.Bool = refl
+lit_is Natural Sort.Pos = refl
+lit_is Natural Sort.Nat = refl
+lit_is Natural Sort.Int = refl
+lit_is Natural Sort.Real = refl
 
-natural_component : (s : Sort) → lit_component Natural s ≡ above_zero (generality s)
-unfolding generality family level lit_component
-natural_component Sort.Bool = refl
-natural_component Sort.Pos = refl
-natural_component Sort.Nat = refl
-natural_component Sort.Int = refl
-natural_component Sort.Real = refl
+module _ (k : LitKind) (s : Sort) (r : Answer ℕ) (e : r ≡ generality s) where
+  pub lit_by : (x : Answer ℕ) → r ≡ x → lit_of k x ≡ lit_number (lit_component k s)
+  lit_by x q = ap (lit_of k) (sym q ∙ e) ∙ lit_is k s
 
-amount_is : (o : Option ℕ) (g : ℕ) → amount_of o ≡ Of g → o ≡ some g
-amount_is none g e = no_confusion (cc)
-amount_is (some n) g e = cc
+  pub no_number : r ≡ None → Other ≡ lit_number (lit_component k s)
+  no_number q = lit_by None q
 
-no_amount : (o : Option ℕ) → amount_of o ≡ Nothing → o ≡ none
-no_amount none e = refl
-no_amount (some n) e = no_confusion (cc)
-
-module _ (s : Sort) (r : Amount) (e : r ≡ amount_of (generality s)) (kind : LitKind) where
-  by_kind : (k : LitKind) (o : Option ℕ) → kind ≡ k → lit_component k s ≡ o → lit_number o ≡ lit_number (lit_component kind s)
-  by_kind k o i z = ap lit_number (sym z) ∙ ap (λ x. lit_number (lit_component x s)) (sym i)
-
-  pub other_at_no_number : r ≡ Nothing → Other ≡ lit_number (lit_component kind s)
-  other_at_no_number z = go kind refl
+  pub number : (g : ℕ) → r ≡ Some g → (k ≡ Natural → g ≡ 0 → ⊥) → Number g ≡ lit_number (lit_component k s)
+  number g q n = go k g n ∙ lit_by (Some g) q
     where
-      none_there : generality s ≡ none
-      none_there = no_amount (generality s) (sym e ∙ z)
+      go : (k : LitKind) (g : ℕ) → (k ≡ Natural → g ≡ 0 → ⊥) → Number g ≡ lit_of k (Some g)
+      go Positive g n = refl
+      go Natural zero n = absurd (n refl refl)
+      go Natural (suc g) n = refl
 
-      go : (k : LitKind) → kind ≡ k → Other ≡ lit_number (lit_component kind s)
-      go Positive i = by_kind Positive none i (positive_component s ∙ none_there)
-      go Natural i = by_kind Natural none i (natural_component s ∙ ap above_zero none_there)
+  pub positive_number : (g : ℕ) → r ≡ Some g → k ≡ Positive → Number g ≡ lit_number (lit_component k s)
+  positive_number g q i = ap (λ (x : LitKind). lit_of x (Some g)) (sym i) ∙ lit_by (Some g) q
 
-  module _ (g : ℕ) (z : r ≡ Of g) where
-    is_number : generality s ≡ some g
-    is_number = amount_is (generality s) g (sym e ∙ z)
+  pub zero_is_not_pos : r ≡ Some 0 → k ≡ Natural → Other ≡ lit_number (lit_component k s)
+  zero_is_not_pos q i = ap (λ (x : LitKind). lit_of x (Some 0)) (sym i) ∙ lit_by (Some 0) q
 
-    pub number_of_positive : kind ≡ Positive → Number g ≡ lit_number (lit_component kind s)
-    number_of_positive i = by_kind Positive (some g) i (positive_component s ∙ is_number)
-
-    module _ (i : kind ≡ Natural) where
-      pub natural_is_not_pos : g ≡ 0 → Other ≡ lit_number (lit_component kind s)
-      natural_is_not_pos y = by_kind Natural none i (natural_component s ∙ (ap above_zero is_number ∙ ap (λ (x : ℕ). above_zero (some x)) y))
-
-      pub number_of_natural : (g ≡ 0 → ⊥) → Number g ≡ lit_number (lit_component kind s)
-      number_of_natural d = by_kind Natural (some g) i (natural_component s ∙ (ap above_zero is_number ∙ above g d))
-        where
-          above : (x : ℕ) → (x ≡ 0 → ⊥) → above_zero (some x) ≡ some x
-          above zero d = absurd (d refl)
-          above (suc x) d = refl
-
+-- by a row
 pub number_row : (kind : LitKind) (r : ResolvedSort) (s : Sort) → r ≡ Primitive s → (x : LitAt) → x ≡ lit_number (lit_component kind s) → x ≡ lit_row kind r
 number_row kind r s e x y = y ∙ sym (ap (lit_row kind) e)
+
+pub other_row : (kind : LitKind) (r : ResolvedSort) → ((s : Sort) → r ≡ Primitive s → ⊥) → Other ≡ lit_row kind r
+other_row kind UnitRow n = refl
+other_row kind (Primitive s) n = absurd (n s refl)
+other_row kind (Container o s) n = refl
+other_row kind (SortFunction d g) n = refl
+other_row kind (Def n) m = refl
+other_row kind (TypeVar n) m = refl
 
 row_by_shape : (kind : LitKind) (ws : List ℕ) (r : ResolvedSort) → lit_row kind r ≡ lit_shape kind (sort_shape ws r)
 unfolding sort_shape
@@ -159,13 +142,14 @@ module _ (ws ns bs : List ℕ) (k : Lengths) (q : Ready ws ns bs k) (kind : LitK
     by_node : (x : InferSort) → r ≡ x → lit_shape kind (node_shape ns x) ≡ lit_at kind shape B p
     by_node x z = ap (λ y. lit_shape kind (node_shape ns y)) (sym z) ∙ (ap (lit_shape kind) (sym (shape_of_node ws ns k q.nodes end placed l r e)) ∙ sym at_end)
 
-    pub other_at_container : (o : ComplexSort) (s : InferSortId) → r ≡ Generic o s → Other ≡ lit_at kind shape B p
+    pub other_at_node : ((v : SortVar) → r ≡ Var v → ⊥) → Other ≡ lit_at kind shape B p
     unfolding node_shape
-    other_at_container o s z = by_node (Generic o s) z
-
-    pub other_at_function : (d : Run) (g : InferSortId) → r ≡ Function d g → Other ≡ lit_at kind shape B p
-    unfolding node_shape
-    other_at_function d g z = by_node (Function d g) z
+    other_at_node n = go r refl
+      where
+        go : (x : InferSort) → r ≡ x → Other ≡ lit_at kind shape B p
+        go (Generic o s) z = by_node (Generic o s) z
+        go (Function d g) z = by_node (Function d g) z
+        go (Var v) z = absurd (n v z)
 
     pub free_at_variable : (v : SortVar) → r ≡ Var v → Free ≡ lit_at kind shape B p
     unfolding node_shape

@@ -1,28 +1,30 @@
 -- A try whose trail is the front of the scratch: by what the try leaves of the trail, and that nothing else of the scratch is lent to it. One pair of
 -- places after another, by the law of tries one after another. Assumes nothing.
 use mathlib.Core.Path.{◌≡◌, refl, ap, sym, ◌∙◌, subst}
+use mathlib.Core.Bool.{Bool, true, false}
 use mathlib.Core.List.{List, [], ◌++◌}
-use Prim.Native.Nat.{ℕ, ◌+◌, ◌≤◌}
+use Prim.Native.Nat.{ℕ, ◌+◌, ◌-◌, ◌≤◌}
 use native.Mathlib.Omega.{arith}
 use lib.ListN.{length, set, take, drop}
 use lib.Seq.{length-take-le, take-append-le, take_all, drop-append-le, drop-length, length_front}
 use Rattle.unification.specs.declared.Lengths.{Lengths}
-use Rattle.unification.specs.declared.Tried.{Tried}
-use Rattle.unification.specs.declared.Tried.TheVariants.{Yes, No}
+use Rattle.std.specs.Prelude.{Option}
 use Rattle.unification.specs.Nodes.{Binds, binds_of}
-use Rattle.unification.specs.Unify.{Unifies, and_then as after-yes, unify}
-use Rattle.unification.specs.Checked.{graph_of, Placed}
+use Rattle.unification.specs.Unify.{Unifies, unify}
+use Rattle.unification.specs.Checked.{graph_of, Ready, Placed}
 use Rattle.unification.specs.declared.InferSortId.{InferSortId}
-use Rattle.unification.specs.Trail.{TryLeaves, count_of, is_yes}
+use Rattle.unification.specs.Trail.{UnifyLeaves, undo}
 use Rattle.unifier.specs.Inner.Trying.{Trying}
-use Rattle.unifier.proofs.Tries.{then_no, then_on, trying_on}
+use Rattle.unifier.specs.Unifier.{graph, bindings, CanTry, Keeps, Leaves}
+use Rattle.unifier.specs.declared.Unifier.{Unifier}
+use Rattle.unifier.proofs.Tries.{no_try, then_no, then_on, trying_on}
 use Rattle.search_state.specs.declared.Branch.{Branch}
 use Rattle.search_state.specs.declared.Pairs.{Pairs}
 use Rattle.search_state.specs.declared.Pairs.TheVariants.{One, Two}
 use Rattle.search_state.specs.declared.Step.{Step}
 use Rattle.search_state.specs.declared.Step.TheVariants.{Nothing, Component, Written, Choice}
 use Rattle.search_state.specs.Inner.Memory.{trail_words, measure_at, choices_at, scratch_used}
-use Rattle.search_state.specs.Inner.Leaves.{unify_pairs, PairsPlaced, TriesPairs, step_words, added_components, branch_after}
+use Rattle.search_state.specs.Inner.Leaves.{unify_pairs, PairsPlaced, trail_after, is_made, TriesPairs, step_words, added_components, branch_after}
 
 front : (sc ts : List ℕ) → length ts ≡ trail_words → take trail_words (ts ++ drop trail_words sc) ≡ ts
 front sc ts l = take-append-le trail_words ts (drop trail_words sc) (omega (arith, l)) ∙ take_all trail_words ts (omega (arith, l))
@@ -35,36 +37,80 @@ behind sc ts l = drop-append-le trail_words ts (drop trail_words sc) (omega (ari
 
 module _ (ws ns : List ℕ) (k : Lengths) (U : Unifies) (bs sc : List ℕ) (c : ℕ) (long : scratch_used ≤ length sc) where
   -- the trail alone was lent
-  pub at_the_front : (bs' ts' : List ℕ) (r : Tried) → length ts' ≡ length (take trail_words sc) → TryLeaves ws ns k U bs (take trail_words sc) c bs' ts' r
+  pub at_the_front : (bs' ts' : List ℕ) (r : Option ℕ) → length ts' ≡ length (take trail_words sc)
+      → UnifyLeaves ws ns k U bs (take trail_words sc) c bs' ts' (trail_after c r) (is_made r)
       → TriesPairs ws ns k U bs sc c bs' (ts' ++ drop trail_words sc) r
   at_the_front bs' ts' r l t =
       let e : length ts' ≡ trail_words = l ∙ length-take-le trail_words sc (omega (arith, long)) in
       record {
-        tries = subst (λ xs. TryLeaves ws ns k U bs (take trail_words sc) c bs' xs r) (sym (front sc ts' e)) t;
+        tries = subst (λ xs. UnifyLeaves ws ns k U bs (take trail_words sc) c bs' xs (trail_after c r) (is_made r)) (sym (front sc ts' e)) t;
         rest = behind sc ts' e;
         long = length_front sc ts' trail_words l;
       }
 
-  module _ (g : Binds → Unifies) (bs₁ sc₁ : List ℕ) where
-    pub then_not : (d : ℕ) → TriesPairs ws ns k U bs sc c bs₁ sc₁ (No d) → TriesPairs ws ns k (after-yes U g) bs sc c bs₁ sc₁ (No d)
-    then_not d t = record { tries = then_no ws ns k U g bs (take trail_words sc) c bs₁ (take trail_words sc₁) d t.tries; rest = t.rest; long = t.long }
+-- a try that failed and was undone
+pub undone_again : (ws ns : List ℕ) (k : Lengths) (U : Unifies) (bs ts : List ℕ) (c : ℕ) → Ready ws ns bs k → (bs₁ ts₁ : List ℕ) (d : ℕ)
+    → UnifyLeaves ws ns k U bs ts c bs₁ ts₁ d false → (bs₂ : List ℕ) → bs₂ ≡ undo ts₁ c (d - c) bs₁ → (ts₂ : List ℕ) → ts₂ ≡ ts₁
+    → UnifyLeaves ws ns k U bs ts c bs₂ ts₂ c false
+undone_again ws ns k U bs ts c q bs₁ ts₁ d t bs₂ eb ts₂ et =
+    subst (λ (xs : List ℕ). UnifyLeaves ws ns k U bs ts c xs ts₂ c false) (sym (eb ∙ t.undone))
+    (subst (λ (xs : List ℕ). UnifyLeaves ws ns k U bs ts c bs xs c false) (sym et)
+    (record {
+      says = t.says;
+      undone = (no_try ws ns k bs ts₁ c q).undone;
+      front = t.front;
+      longer = omega arith;
+      spent = refl;
+      past = refl;
+      ready = q;
+    }))
 
-    pub then_also : (d : ℕ) → TriesPairs ws ns k U bs sc c bs₁ sc₁ (Yes d) → (bs₂ sc₂ : List ℕ) (r : Tried)
-        → TriesPairs ws ns k (g (binds_of bs₁ k.variables)) bs₁ sc₁ d bs₂ sc₂ r
-        → TriesPairs ws ns k (after-yes U g) bs sc c bs₂ sc₂ r
-    then_also d t bs₂ sc₂ r u =
-        record {
-          tries = then_on ws ns k U g bs (take trail_words sc) c bs₁ (take trail_words sc₁) d t.tries bs₂ (take trail_words sc₂) (count_of r) (is_yes r) u.tries;
-          rest = u.rest ∙ t.rest;
-          long = u.long ∙ t.long;
-        }
+-- One pair of places, or one after the other, by a unifier: ₁ marks what the first leaves.
+module _ (U₀ : Unifier) (p : Pairs) where
+  abbrev all : Unifies
+  all = unify_pairs (graph U₀) p (bindings U₀)
 
-  -- there is room to go on
-  pub trying_pairs : (bs₁ sc₁ : List ℕ) (d : ℕ) → Trying ws ns bs (take trail_words sc) k c
-      → TriesPairs ws ns k U bs sc c bs₁ sc₁ (Yes d) → Trying ws ns bs₁ (take trail_words sc₁) k d
-  trying_pairs bs₁ sc₁ d t u =
-      trying_on ws ns k U bs (take trail_words sc) c bs₁ (take trail_words sc₁) d t
-      (length-take-le trail_words sc₁ (omega (arith, long, u.long)) ∙ sym (length-take-le trail_words sc (omega (arith, long)))) u.tries
+  pub one_made : (l r : InferSortId) → p ≡ One l r → (V : Unifier) (b : Bool)
+      → Leaves (unify (graph U₀) (bindings U₀) l.0 r.0) U₀ V b → Leaves all U₀ V b
+  unfolding unify_pairs
+  one_made l r q V b x = rw q x
+
+  module _ (l r l' r' : InferSortId) (q : p ≡ Two l r l' r') (V : Unifier) (K : Keeps U₀ V) where
+    abbrev g : Binds → Unifies
+    g C = unify (graph U₀) C l'.0 r'.0
+
+    pub first_not : (b : Bool) → Leaves (unify (graph U₀) (bindings U₀) l.0 r.0) U₀ V b → b ≡ false → Leaves all U₀ V false
+    unfolding unify_pairs
+    first_not b x e =
+        rw q (then_no U₀.places.sorts.now U₀.places.nodes.now U₀.places.lengths (unify (graph U₀) (bindings U₀) l.0 r.0) g
+        U₀.binds.now U₀.trail.now U₀.count V.binds.now V.trail.now V.count
+        (subst (Leaves (unify (graph U₀) (bindings U₀) l.0 r.0) U₀ V) e x))
+
+    module _ (b : Bool) (x : Leaves (unify (graph U₀) (bindings U₀) l.0 r.0) U₀ V b) (e : b ≡ true) where
+      first_made : Leaves (unify (graph U₀) (bindings U₀) l.0 r.0) U₀ V true
+      first_made = subst (Leaves (unify (graph U₀) (bindings U₀) l.0 r.0) U₀ V) e x
+
+      pub second_asked : CanTry U₀ → PairsPlaced U₀.places.lengths p → CanTry V × Placed V.places.lengths l'.0 × Placed V.places.lengths r'.0
+      second_asked t h =
+          let i : PairsPlaced U₀.places.lengths (Two l r l' r') = subst (PairsPlaced U₀.places.lengths) q h in (
+            subst (λ P. Trying P.sorts.now P.nodes.now V.binds.now V.trail.now P.lengths V.count) (sym K.0)
+                (trying_on U₀.places.sorts.now U₀.places.nodes.now U₀.places.lengths (unify (graph U₀) (bindings U₀) l.0 r.0)
+                U₀.binds.now U₀.trail.now U₀.count V.binds.now V.trail.now V.count t K.4 first_made),
+            subst (λ P. Placed P.lengths l'.0) (sym K.0) i.2,
+            subst (λ P. Placed P.lengths r'.0) (sym K.0) i.3,
+          )
+
+      pub both_made : (Z : Unifier) (d : Bool) → Leaves (unify (graph V) (bindings V) l'.0 r'.0) V Z d → Leaves all U₀ Z d
+      unfolding unify_pairs
+      both_made Z d y =
+          rw q (then_on U₀.places.sorts.now U₀.places.nodes.now U₀.places.lengths (unify (graph U₀) (bindings U₀) l.0 r.0) g
+          U₀.binds.now U₀.trail.now U₀.count V.binds.now V.trail.now V.count first_made Z.binds.now Z.trail.now Z.count d
+          (subst (λ P. UnifyLeaves P.sorts.now P.nodes.now P.lengths
+          (unify (graph_of P.sorts.now P.nodes.now P.lengths) (binds_of V.binds.now P.lengths.variables) l'.0 r'.0)
+          V.binds.now V.trail.now V.count Z.binds.now Z.trail.now Z.count d) K.0 y))
+
+pub keeps_on : (U V Z : Unifier) → Keeps U V → Keeps V Z → Keeps U Z
+keeps_on U V Z k l = (l.0 ∙ k.0, l.1 ∙ k.1, l.2 ∙ k.2, l.3 ∙ k.3, l.4 ∙ k.4)
 
 -- A step, by its kind: the words that it writes, and the counts after it.
 abbrev pub Pushes : List ℕ → Branch → ℕ → Step → List ℕ → Branch → Type 0
@@ -101,35 +147,7 @@ pub two_placed : (k : Lengths) (p : Pairs) (l r l' r' : InferSortId) → p ≡ T
     → Placed k l.0 × Placed k r.0 × Placed k l'.0 × Placed k r'.0
 two_placed k p l r l' r' q h = rw q at h
 
-module _ (ws ns : List ℕ) (k : Lengths) (bs sc : List ℕ) (c : ℕ) (long : scratch_used ≤ length sc) (p : Pairs) where
-  abbrev U : Unifies
-  U = unify_pairs (graph_of ws ns k) p (binds_of bs k.variables)
-
-  pub one_tried : (l r : InferSortId) → p ≡ One l r → (bs' sc' : List ℕ) (t : Tried)
-      → TriesPairs ws ns k (unify (graph_of ws ns k) (binds_of bs k.variables) l.0 r.0) bs sc c bs' sc' t
-      → TriesPairs ws ns k U bs sc c bs' sc' t
-  unfolding unify_pairs
-  one_tried l r q bs' sc' t x = rw q x
-
-  module _ (l r l' r' : InferSortId) (q : p ≡ Two l r l' r') (bs₁ sc₁ : List ℕ) (t : Tried)
-      (x : TriesPairs ws ns k (unify (graph_of ws ns k) (binds_of bs k.variables) l.0 r.0) bs sc c bs₁ sc₁ t) where
-    pub two_not : (d : ℕ) → t ≡ No d → TriesPairs ws ns k U bs sc c bs₁ sc₁ (No d)
-    unfolding unify_pairs
-    two_not d y =
-        rw q
-        (then_not ws ns k (unify (graph_of ws ns k) (binds_of bs k.variables) l.0 r.0) bs sc c long
-        (λ C. unify (graph_of ws ns k) C l'.0 r'.0) bs₁ sc₁ d
-        (subst (TriesPairs ws ns k _ bs sc c bs₁ sc₁) y x))
-
-    pub two_tried : (d : ℕ) → t ≡ Yes d → (bs₂ sc₂ : List ℕ) (u : Tried)
-        → TriesPairs ws ns k (unify (graph_of ws ns k) (binds_of bs₁ k.variables) l'.0 r'.0) bs₁ sc₁ d bs₂ sc₂ u → TriesPairs ws ns k U bs sc c bs₂ sc₂ u
-    unfolding unify_pairs
-    two_tried d y bs₂ sc₂ u z =
-        rw q
-        (then_also ws ns k (unify (graph_of ws ns k) (binds_of bs k.variables) l.0 r.0) bs sc c long
-        (λ C. unify (graph_of ws ns k) C l'.0 r'.0) bs₁ sc₁ d
-        (subst (TriesPairs ws ns k _ bs sc c bs₁ sc₁) y x) bs₂ sc₂ u z)
-
-    pub two_go_on : (d : ℕ) → t ≡ Yes d → Trying ws ns bs (take trail_words sc) k c → Trying ws ns bs₁ (take trail_words sc₁) k d
-    two_go_on d y w = trying_pairs ws ns k (unify (graph_of ws ns k) (binds_of bs k.variables) l.0 r.0) bs sc c
-        long bs₁ sc₁ d w (subst (TriesPairs ws ns k _ bs sc c bs₁ sc₁) y x)
+-- the words that the unifier held are those that were lent
+pub leaves_moved : (us vs : List ℕ) → vs ≡ us → (ts₁ ts₂ : List ℕ) → ts₂ ≡ ts₁ → (ws ns : List ℕ) (k : Lengths) (U : Unifies) (bs ts : List ℕ)
+    (c d : ℕ) (r : Bool) → UnifyLeaves ws ns k U bs ts c us ts₁ d r → UnifyLeaves ws ns k U bs ts c vs ts₂ d r
+leaves_moved us vs e ts₁ ts₂ f ws ns k U bs ts c d r x = rw (e, f) x

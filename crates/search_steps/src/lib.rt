@@ -1,51 +1,97 @@
 // What the search of merc's inference.rs does between its calls of itself. One try: places made equal with a trail at
-// the front of the scratch, and what the try adds to its branch. Answers told apart, and the tries of a widening and of
-// a literal, from solve_widening and solve_lit.
+// the front of the scratch, and what the try adds to its branch. The tries of a widening and of a literal, from
+// solve_widening and solve_lit.
 #![tactic(auto)]
 
-ghost use Rattle.std.specs.Prelude.{◌≡◌, true, false, ◌+◌, ◌-◌, ◌<◌, ◌≤◌, get_or, take, length};
+ghost use Rattle.std.specs.Prelude.{◌≡◌, true, false, ◌+◌, ◌-◌, ◌<◌, ◌≤◌, take, length};
 ghost use Rattle.resolved_sort.specs.Rows.{Checked};
 ghost use Rattle.unification.specs.Nodes.{binds_of};
 ghost use Rattle.unification.specs.Checked.{graph_of, Ready, Placed};
-ghost use Rattle.related_sorts.specs.Inner.Outcome.{three_places, Ranges};
+ghost use Rattle.unification.specs.Trail.{UnifyLeaves, undo as undoOf};
+ghost use Rattle.unifier.specs.Inner.Trying.{Trying};
+ghost use Rattle.unifier.specs.Unifier.{graph, bindings, CanTry, Keeps, Leaves};
+ghost use Rattle.related_sorts.specs.Listed.{places};
+ghost use Rattle.related_sorts.specs.Arena.{world, ReadyIn, PlacedIn, Keeps as KeepsArena};
 ghost use Rattle.related_sorts.specs.Inner.Ranges.{SixThere};
 ghost use Rattle.inference.specs.Search.{lit_component};
 ghost use Rattle.inference.specs.Constraints.{max_constraints, max_components};
 ghost use Rattle.search_state.specs.Inner.Memory.{trail_words, scratch_used};
-ghost use Rattle.search_state.specs.Inner.Leaves.{with_nodes, places_of, try_at};
+ghost use Rattle.search_state.specs.Inner.Leaves.{with_nodes, try_at};
 ghost use Rattle.search_state.specs.Inner.Leaves.{widenings, FindsWidenings, lit_number, lit_at, unify_pairs};
-ghost use Rattle.search_state.specs.Inner.Leaves.{PairsPlaced, TriesPairs, step_words, added_components, added_choices};
+ghost use Rattle.search_state.specs.Inner.Leaves.{PairsPlaced, trail_after, is_made, TriesPairs, step_words, added_components, added_choices};
 ghost use Rattle.search_state.specs.Inner.Leaves.{branch_after};
 ghost use Rattle.search_state.specs.Inner.Solving.{KeepsRest, OnlyBinds, OnlyScratch, OnlySorts, lent_of};
-ghost use Rattle.search_steps.specs.Inner.Steps.{pairs_of, lit_row, LitTries, InternsContainer};
-ghost use Rattle.search_steps.specs.Inner.Steps.{ListedTries, AsTries, Coded, lengths_after};
-ghost use Rattle.unification.specs.Unify.{unify as unifyOf};
-ghost use Rattle.unification.specs.Trail.{undo as undoOf};
-ghost use Rattle.unifier.specs.Inner.Trying.{Trying};
+ghost use Rattle.search_steps.specs.Inner.Steps.{pairs_of, lit_row, LitTries, InternsContainer, ListedTries};
 
-use infer_nodes::{counts_of, node, shallow_normalize, taken_apart, with_counts};
+use infer_nodes::{Bindings, Places, counts_of, taken_apart, with_counts};
 use inference::LitKind;
-use related_sorts::{strict_sub_sorts, strict_super_sorts};
-use resolved_sort::{ComplexSort, Joined, NoRoom, ResolvedSort, Sort, SortId};
+use related_sorts::{Arena, Listed};
+use resolved_sort::{ComplexSort, NoRoom, ResolvedSort, Sort, SortId};
 use search_state::{
-    Branch, CHOICES_AT, Four, LitAt, MEASURE_AT, Pairs, Search, Step, TRAIL_WORDS, Tries,
+    Branch, CHOICES_AT, LitAt, MEASURE_AT, Pairs, Search, Step, TRAIL_WORDS, Tries,
 };
-use sort_interner::{generic, get};
-use sort_order::lent::{Amount, number_generality};
-use unification::{Full, InferSort, InferSortId, Lengths, Place, Related, Three, Tried};
-use unifier::{undo, unify};
+use sort_interner::{SortInterner, Sorts};
+use sort_order::number_generality;
+use unification::{Full, InferSort, InferSortId, Lengths, Place};
+use unifier::{Unifier, undo};
 
-// Makes two places equal, after so many variables on the trail.
-fn unify_pair(search: &mut Search<'_>, count: u16, lhs: InferSortId, rhs: InferSortId) -> Tried
+// Makes the places of a try equal, one pair after the other.
+fn unify_each(unifier: &mut Unifier<'_, '_>, pairs: Pairs) -> bool
+    requires { CanTry unifier.old × PairsPlaced unifier.old.places.lengths pairs }
+    ensures keeps { Keeps unifier.old unifier.new }
+    ensures leaves { Leaves (unify_pairs (graph unifier.old) pairs (bindings unifier.old))
+        unifier.old unifier.new result }
+{
+    match pairs {
+        Pairs::One(lhs, rhs) => unifier.unify(lhs, rhs),
+        Pairs::Two(lhs, rhs, then_lhs, then_rhs) => {
+            if !unifier.unify(lhs, rhs) {
+                return false;
+            }
+            unifier.unify(then_lhs, then_rhs)
+        }
+    }
+}
+
+// Makes the places of a try equal, after so many variables on the trail, and answers how many are on it then. Where
+// they cannot be, nothing is bound.
+fn unify_on(
+    places: &Places<'_>,
+    binds: &mut [u16],
+    trail: &mut [u16],
+    base: u16,
+    pairs: Pairs,
+) -> Option<u16>
+    requires { Trying places.now.sorts.now places.now.nodes.now binds.old trail.old places.now.lengths base
+        × PairsPlaced places.now.lengths pairs }
+    ensures { UnifyLeaves places.now.sorts.now places.now.nodes.now places.now.lengths
+        (unify_pairs (graph_of places.now.sorts.now places.now.nodes.now places.now.lengths) pairs
+        (binds_of binds.old places.now.lengths.variables))
+        binds.old trail.old base binds.new trail.new (trail_after base result) (is_made result) }
+{
+    let mut unifier = Unifier {
+        places: *places,
+        binds,
+        trail,
+        count: base,
+    };
+    if !unify_each(&mut unifier, pairs) {
+        unifier.undo(base);
+        return None;
+    }
+    Some(unifier.count)
+}
+
+// The same with the trail at the front of the scratch.
+pub fn unify_pairs(search: &mut Search<'_>, base: u16, pairs: Pairs) -> Option<u16>
     requires { Trying search.old.sorts.now search.old.nodes.now search.old.binds.now
-        (take trail_words search.old.scratch.now) search.old.lengths count
-        × Placed search.old.lengths lhs.0
-        × Placed search.old.lengths rhs.0
+        (take trail_words search.old.scratch.now) search.old.lengths base
+        × PairsPlaced search.old.lengths pairs
         × (scratch_used ≤ length search.old.scratch.now) }
     ensures { TriesPairs search.old.sorts.now search.old.nodes.now search.old.lengths
-        (unifyOf (graph_of search.old.sorts.now search.old.nodes.now search.old.lengths)
-        (binds_of search.old.binds.now search.old.lengths.variables) lhs.0 rhs.0)
-        search.old.binds.now search.old.scratch.now count search.new.binds.now search.new.scratch.now
+        (unify_pairs (graph_of search.old.sorts.now search.old.nodes.now search.old.lengths) pairs
+        (binds_of search.old.binds.now search.old.lengths.variables))
+        search.old.binds.now search.old.scratch.now base search.new.binds.now search.new.scratch.now
         result
         × OnlyBinds search.old search.new }
 {
@@ -54,41 +100,15 @@ fn unify_pair(search: &mut Search<'_>, count: u16, lhs: InferSortId, rhs: InferS
     let nodes = &mut *search.nodes;
     let binds = &mut *search.binds;
     let scratch = &mut *search.scratch;
-    unify(
+    let places = Places {
         sorts,
         nodes,
-        binds,
-        &mut scratch[0..TRAIL_WORDS],
         lengths,
-        count,
-        lhs,
-        rhs,
-    )
+    };
+    unify_on(&places, binds, &mut scratch[0..TRAIL_WORDS], base, pairs)
 }
 
-// Makes the places of a try equal, one pair after the other.
-pub fn unify_pairs(search: &mut Search<'_>, count: u16, pairs: Pairs) -> Tried
-    requires { Trying search.old.sorts.now search.old.nodes.now search.old.binds.now
-        (take trail_words search.old.scratch.now) search.old.lengths count
-        × PairsPlaced search.old.lengths pairs
-        × (scratch_used ≤ length search.old.scratch.now) }
-    ensures { TriesPairs search.old.sorts.now search.old.nodes.now search.old.lengths
-        (unify_pairs (graph_of search.old.sorts.now search.old.nodes.now search.old.lengths) pairs
-        (binds_of search.old.binds.now search.old.lengths.variables))
-        search.old.binds.now search.old.scratch.now count search.new.binds.now search.new.scratch.now
-        result
-        × OnlyBinds search.old search.new }
-{
-    match pairs {
-        Pairs::One(lhs, rhs) => unify_pair(search, count, lhs, rhs),
-        Pairs::Two(lhs, rhs, then_lhs, then_rhs) => match unify_pair(search, count, lhs, rhs) {
-            Tried::Yes(more) => unify_pair(search, more, then_lhs, then_rhs),
-            Tried::No(more) => Tried::No(more),
-        },
-    }
-}
-
-// Frees the variables on the trail from `base` on, of `count`.
+// Frees the variables on the trail from `base` on, of `count`. This looks at no place, so it asks for no Unifier.
 pub fn roll_back(search: &mut Search<'_>, base: u16, count: u16)
     requires { (base ≤ count) × (count ≤ length search.old.scratch.now) }
     ensures { (search.new.binds.now
@@ -153,25 +173,11 @@ pub fn give_back(kept: Lengths, lengths: Lengths) -> Lengths
     }
 }
 
-// The j-th of the places.
-fn place_at(ids: Four, j: u16) -> InferSortId
-    ensures { result.0 ≡ get_or (places_of ids) j 0 }
-{
-    match j {
-        0 => ids.0,
-        1 => ids.1,
-        2 => ids.2,
-        3 => ids.3,
-        _ => InferSortId(0),
-    }
-}
-
 // The places that the j-th of tries makes equal, and its component.
 pub fn try_pairs(t: Tries, j: u16) -> Pairs
     ensures { result ≡ pairs_of (try_at t j) }
 {
-    let ids = t.ids;
-    let place = place_at(ids, j);
+    let place = t.ids.get(j as usize).copied().unwrap_or(InferSortId(0));
     let other = t.other;
     if t.up {
         return Pairs::One(place, other);
@@ -194,24 +200,24 @@ pub fn lit_tries(kind: LitKind, id: InferSortId) -> Tries
 {
     match kind {
         LitKind::Positive => Tries {
-            ids: Four(
+            ids: [
                 InferSortId(2),
                 InferSortId(3),
                 InferSortId(4),
                 InferSortId(5),
-            ),
+            ],
             count: 4,
             other: id,
             up: false,
             first: 0,
         },
         LitKind::Natural => Tries {
-            ids: Four(
+            ids: [
                 InferSortId(3),
                 InferSortId(4),
                 InferSortId(5),
                 InferSortId(0),
-            ),
+            ],
             count: 3,
             other: id,
             up: false,
@@ -228,16 +234,25 @@ pub fn lit_at(search: &Search<'_>, id: InferSortId, kind: LitKind) -> LitAt
         ≡ lit_at kind (graph_of search.now.sorts.now search.now.nodes.now search.now.lengths)
         (binds_of search.now.binds.now search.now.lengths.variables) id.0 }
 {
-    let end = shallow_normalize(search.sorts, search.nodes, search.binds, search.lengths, id);
-    match taken_apart(end) {
-        Place::Sort(sort) => lit_at_row(get(search.sorts, sort), kind),
-        Place::Node(at) => match node(search.nodes, at) {
-            InferSort::Generic { op: _, subsort: _ } => LitAt::Other,
-            InferSort::Function {
-                domain: _,
-                range: _,
-            } => LitAt::Other,
+    let lengths = search.lengths;
+    let words = &*search.sorts;
+    let nodes = &*search.nodes;
+    let binds = &*search.binds;
+    let places = Places {
+        sorts: words,
+        nodes,
+        lengths,
+    };
+    let bindings = Bindings { places, binds };
+    match taken_apart(bindings.shallow_normalize(id)) {
+        Place::Sort(sort) => {
+            let counts = counts_of(lengths);
+            let sorts = Sorts { words, counts };
+            lit_at_row(sorts.get(sort), kind)
+        }
+        Place::Node(at) => match places.node(at) {
             InferSort::Var(_) => LitAt::Free,
+            _ => LitAt::Other,
         },
     }
 }
@@ -246,15 +261,8 @@ fn lit_at_row(row: ResolvedSort, kind: LitKind) -> LitAt
     ensures { result ≡ lit_row kind row }
 {
     match row {
-        ResolvedSort::Unit => LitAt::Other,
         ResolvedSort::Primitive(sort) => lit_at_number(sort, kind),
-        ResolvedSort::Container { op: _, subsort: _ } => LitAt::Other,
-        ResolvedSort::Function {
-            domain: _,
-            range: _,
-        } => LitAt::Other,
-        ResolvedSort::Def(_) => LitAt::Other,
-        ResolvedSort::TypeVar(_) => LitAt::Other,
+        _ => LitAt::Other,
     }
 }
 
@@ -265,18 +273,16 @@ fn lit_at_number(sort: Sort, kind: LitKind) -> LitAt
     ensures { result ≡ lit_number (lit_component kind sort) }
 {
     match number_generality(sort) {
-        Amount::Of(generality) => {
-            match kind {
-                LitKind::Positive => LitAt::Number(generality as u16),
-                LitKind::Natural => {
-                    if generality == 0 {
-                        return LitAt::Other;
-                    }
-                    LitAt::Number(generality as u16)
+        Some(generality) => match kind {
+            LitKind::Positive => LitAt::Number(generality as u16),
+            LitKind::Natural => {
+                if generality == 0 {
+                    return LitAt::Other;
                 }
+                LitAt::Number(generality as u16)
             }
-        }
-        Amount::Nothing => LitAt::Other,
+        },
+        None => LitAt::Other,
     }
 }
 
@@ -292,60 +298,51 @@ pub fn intern_container(
         search.new.sorts.now search.new.lengths result
         × OnlySorts search.old search.new }
 {
-    let counts = counts_of(search.lengths);
-    match generic(search.sorts, counts, op, element) {
-        Joined::At(id, made) => {
-            search.lengths = with_counts(search.lengths, made);
-            Ok(id)
-        }
-        Joined::Nothing(_) => Err(NoRoom),
-        Joined::Full => Err(NoRoom),
-    }
+    let mut interner = SortInterner {
+        words: &mut *search.sorts,
+        counts: counts_of(search.lengths),
+    };
+    let id = interner.generic(op, element)?;
+    search.lengths = with_counts(search.lengths, interner.counts);
+    Ok(id)
 }
 
-// The places of a list as tries against another place: 1, 2, 3.
-fn listed_tries(places: Three, other: InferSortId, up: bool) -> Tries
-    requires { places.count ≤ 3 }
-    ensures { ListedTries up other.0 (three_places places) result }
+// The places of a list as tries against another place, with the components 1, 2, 3.
+fn listed_tries(listed: Listed, other: InferSortId, up: bool) -> Tries
+    ensures { ListedTries up other.0 (places listed) result }
 {
-    let first = places.first;
-    let second = places.second;
-    let third = places.third;
+    let ids = listed.ids;
     Tries {
-        ids: Four(first, second, third, InferSortId(0)),
-        count: places.count,
+        ids: [ids[0], ids[1], ids[2], InferSortId(0)],
+        count: listed.count as u16,
         other,
         up,
         first: 1,
     }
 }
 
-// The same of what was listed, if anything.
-fn as_tries(found: Related, other: InferSortId, up: bool) -> Result<Option<Tries>, Full>
-    requires { Ranges found × Coded found }
-    ensures { AsTries up other.0 found result }
+// The tries over an arena: see `widenings_of`.
+fn widenings_in(
+    arena: &mut Arena<'_>,
+    binds: &[u16],
+    lhs: InferSortId,
+    rhs: InferSortId,
+) -> Result<Option<Tries>, Full>
+    requires { ReadyIn arena.old binds.now
+        × PlacedIn arena.old lhs.0
+        × PlacedIn arena.old rhs.0
+        × SixThere arena.old.lengths }
+    ensures keeps { KeepsArena arena.old arena.new }
+    ensures finds { FindsWidenings arena.new.sorts.now arena.new.nodes.now arena.new.lengths result
+        (widenings (binds_of binds.now arena.old.lengths.variables) lhs.0 rhs.0 (world arena.old)) }
 {
-    match found {
-        Related::These(places, _) => Ok(Some(listed_tries(places, other, up))),
-        Related::NoList(_) => Ok(None),
-        Related::Full(code, _) => {
-            if code == 15 {
-                return Err(Full::Sorts);
-            }
-            Err(Full::Nodes)
-        }
+    if let Some(wider) = arena.strict_super_sorts(binds, lhs)? {
+        return Ok(Some(listed_tries(wider, rhs, true)));
     }
-}
-
-// The lengths after listing.
-fn lengths_after(found: Related) -> Lengths
-    ensures { result ≡ lengths_after found }
-{
-    match found {
-        Related::These(_, lengths) => lengths,
-        Related::NoList(lengths) => lengths,
-        Related::Full(_, lengths) => lengths,
-    }
+    let Some(narrower) = arena.strict_sub_sorts(binds, rhs)? else {
+        return Ok(None);
+    };
+    Ok(Some(listed_tries(narrower, lhs, false)))
 }
 
 // The tries of a widening of `lhs` to `rhs` after that without one: each wider sort of `lhs` against `rhs`, nearest
@@ -366,16 +363,13 @@ pub fn widenings_of(
         × KeepsRest search.old search.new
         × (search.new.scratch.now ≡ search.old.scratch.now) }
 {
-    let given = search.lengths;
     let binds = &mut *search.binds;
-    let wider = strict_super_sorts(search.sorts, search.nodes, binds, given, lhs);
-    let lengths = lengths_after(wider);
-    search.lengths = lengths;
-    if let Some(tries) = as_tries(wider, rhs, true)? {
-        return Ok(Some(tries));
-    }
-    let binds = &mut *search.binds;
-    let narrower = strict_sub_sorts(search.sorts, search.nodes, binds, lengths, rhs);
-    search.lengths = lengths_after(narrower);
-    as_tries(narrower, lhs, false)
+    let mut arena = Arena {
+        sorts: &mut *search.sorts,
+        nodes: &mut *search.nodes,
+        lengths: search.lengths,
+    };
+    let tries = widenings_in(&mut arena, binds, lhs, rhs);
+    search.lengths = arena.lengths;
+    tries
 }

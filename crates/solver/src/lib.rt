@@ -37,7 +37,7 @@ use search_steps::{
     give_back, intern_container, lit_at, lit_tries, push, roll_back, try_component, try_pairs,
     unify_pairs, widenings_of,
 };
-use unification::{Full, InferSortId, Tried};
+use unification::{Full, InferSortId};
 
 // Solves the constraints from `index` on; answers whether any leaf was reached below this point.
 #[cycle(search)]
@@ -323,18 +323,13 @@ fn attempt(
         search.new result }
 {
     let base = at.trail;
-    match unify_pairs(search, base, pairs) {
-        Tried::Yes(count) => {
-            let then = push(search, at, count, step);
-            let found = resume(search, then, next);
-            roll_back(search, base, count);
-            found
-        }
-        Tried::No(count) => {
-            roll_back(search, base, count);
-            Ok(false)
-        }
-    }
+    let Some(count) = unify_pairs(search, base, pairs) else {
+        return Ok(false);
+    };
+    let then = push(search, at, count, step);
+    let found = resume(search, then, next);
+    roll_back(search, base, count);
+    found
 }
 
 // What comes next.

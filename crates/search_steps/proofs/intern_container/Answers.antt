@@ -1,33 +1,27 @@
 -- By what interning answers. Assumes nothing.
-use Rattle.std.proofs.Common.{refl}
+use Rattle.std.proofs.Common.{rules, refl}
 use Rattle.search_steps.proofs.Laws as law
+use Rattle.search_steps.specs.Inner.Steps.{InternsContainer}
 use Rattle.search_steps.proofs.intern_container.Goals as goal
 
-pub generic-requires : goal.generic-requires
-generic-requires c =
+pub returns-in_err-id : goal.returns-in_err-id
+returns-in_err-id c =
     let a = c.args in
-    law.container_asked a.op a.element.0 a.search.now.sorts.now a.search.now.lengths _ c.counts_of-counts.ensures c.requires.0 c.requires.1
-
-pub returns-in-At : goal.returns-in-At
-returns-in-At c =
-    let a = c.args in (
-      law.interned_at a.op a.element.0 a.search.now.sorts.now a.search.now.lengths _ c.counts_of-counts.ensures c.generic.new.sorts
-          c.generic.result c.generic.ensures _ _ c.in-At.is _ c.with_counts-search.ensures,
+    let k = a.search.now.lengths in
+    let w = c.generic.new.self.words.now in (
+      law.container_moved w _ (search rules) a.op a.element.0 a.search.now.sorts.now k k c.from_residual.result
+          (law.any_error c.from_residual.result _ c.from_residual.ensures (InternsContainer a.op a.element.0 a.search.now.sorts.now k w k)
+          (law.no_room_for_container a.op a.element.0 a.search.now.sorts.now k _ c.counts_of.ensures _ _ c.generic.result
+          c.generic.ensures.interned c.requires.0 _ c.in_err-id.was)),
       refl,
     )
 
-pub returns-in-Nothing : goal.returns-in-Nothing
-returns-in-Nothing c =
-    let a = c.args in (
-      law.always_interned a.op a.element.0 a.search.now.sorts.now a.search.now.lengths _ c.counts_of-counts.ensures c.generic.new.sorts
-          c.generic.result c.generic.ensures c.requires.0 _ c.in-Nothing.is _ _,
-      refl,
-    )
-
-pub returns-in-Full : goal.returns-in-Full
-returns-in-Full c =
-    let a = c.args in (
-      law.no_room_for_container a.op a.element.0 a.search.now.sorts.now a.search.now.lengths _ c.counts_of-counts.ensures
-          c.generic.new.sorts c.generic.result c.generic.ensures c.requires.0 c.in-Full.is _,
+pub returns : goal.returns
+returns c =
+    let a = c.args in
+    let k = a.search.now.lengths in (
+      law.container_moved c.generic.new.self.words.now _ (search rules) a.op a.element.0 a.search.now.sorts.now k _ _
+          (law.container_found a.op a.element.0 a.search.now.sorts.now k _ c.counts_of.ensures _ _ c.generic.result
+          c.generic.ensures.interned _ c.in_ok-id.was _ c.with_counts-search.ensures),
       refl,
     )

@@ -3,8 +3,12 @@ use Rattle.resolved_sort.specs.Storage.{row_at}
 use Rattle.std.proofs.Common.{◌∙◌, ap}
 use Rattle.unification.specs.Nodes.{node_at}
 use Rattle.infer_nodes.proofs.Apart as apart
+use Rattle.infer_nodes.proofs.Passing.{pass_of}
 use Rattle.search_steps.proofs.Literals as literal
 use Rattle.search_steps.proofs.lit_at.Goals as goal
+
+pub invariant_of-bindings : goal.invariant_of-bindings
+invariant_of-bindings c = record { passed = pass_of _ _ _ _ c.requires.0 }
 
 pub returns-in-Sort : goal.returns-in-Sort
 returns-in-Sort c =
@@ -12,23 +16,7 @@ returns-in-Sort c =
     let s = a.search.now in
     let q = apart.is_sort_lem _ _ c.taken_apart.ensures _ c.in-Sort.is in
     literal.at_row s.sorts.now s.nodes.now s.binds.now s.lengths c.requires.0 a.kind a.id.0 c.requires.1 _
-    c.shallow_normalize-end.ensures q.0 _ (c.get.ensures ∙ ap (row_at s.sorts.now) q.1) _ c.lit_at_row.ensures
-
-pub returns-in-Generic : goal.returns-in-Generic
-returns-in-Generic c =
-    let a = c.args in
-    let s = a.search.now in
-    let n = apart.is_node _ _ c.taken_apart.ensures _ c.in-Node.is in
-    literal.other_at_container s.sorts.now s.nodes.now s.binds.now s.lengths c.requires.0 a.kind a.id.0 c.requires.1 _
-    c.shallow_normalize-end.ensures n.0 _ (c.node.ensures ∙ ap (node_at s.nodes.now) n.1) _ _ c.in-Generic.is
-
-pub returns-in-Function : goal.returns-in-Function
-returns-in-Function c =
-    let a = c.args in
-    let s = a.search.now in
-    let n = apart.is_node _ _ c.taken_apart.ensures _ c.in-Node.is in
-    literal.other_at_function s.sorts.now s.nodes.now s.binds.now s.lengths c.requires.0 a.kind a.id.0 c.requires.1 _
-    c.shallow_normalize-end.ensures n.0 _ (c.node.ensures ∙ ap (node_at s.nodes.now) n.1) _ _ c.in-Function.is
+    c.shallow_normalize.ensures q.0 _ (c.get.ensures ∙ ap (row_at s.sorts.now) q.1) _ c.lit_at_row.ensures
 
 pub returns-in-Var : goal.returns-in-Var
 returns-in-Var c =
@@ -36,4 +24,12 @@ returns-in-Var c =
     let s = a.search.now in
     let n = apart.is_node _ _ c.taken_apart.ensures _ c.in-Node.is in
     literal.free_at_variable s.sorts.now s.nodes.now s.binds.now s.lengths c.requires.0 a.kind a.id.0 c.requires.1 _
-    c.shallow_normalize-end.ensures n.0 _ (c.node.ensures ∙ ap (node_at s.nodes.now) n.1) _ c.in-Var.is
+    c.shallow_normalize.ensures n.0 _ (c.node.ensures ∙ ap (node_at s.nodes.now) n.1) _ c.in-Var.is
+
+pub returns-in_default : goal.returns-in_default
+returns-in_default c =
+    let a = c.args in
+    let s = a.search.now in
+    let n = apart.is_node _ _ c.taken_apart.ensures _ c.in-Node.is in
+    literal.other_at_node s.sorts.now s.nodes.now s.binds.now s.lengths c.requires.0 a.kind a.id.0 c.requires.1 _
+    c.shallow_normalize.ensures n.0 _ (c.node.ensures ∙ ap (node_at s.nodes.now) n.1) c.in_default.not-Var

@@ -1,19 +1,15 @@
 -- What the steps of the search answer.
-use Rattle.std.specs.Prelude.{◌≡◌, Bool, true, false, List, ℕ, ◌<◌, ◌≤◌, get_or, Option, Result, Ok, Err, ◌⊎◌}
+use Rattle.std.specs.Prelude.{◌≡◌, Bool, true, false, List, ℕ, ◌<◌, ◌≤◌, Result, Ok, Err}
 use Rattle.resolved_sort.specs.declared.SortId.{SortId}
 use Rattle.resolved_sort.specs.declared.NoRoom.{NoRoom}
-use Rattle.unification.specs.declared.Full.{Full}
 use Rattle.resolved_sort.specs.declared.ComplexSort.{ComplexSort}
 use Rattle.resolved_sort.specs.declared.ResolvedSort.{ResolvedSort}
 use Rattle.resolved_sort.specs.declared.ResolvedSort.TheVariants.{Unit as UnitRow, Primitive, Container, Function}
 use Rattle.resolved_sort.specs.declared.ResolvedSort.TheVariants.{Def, TypeVar}
 use Rattle.unification.specs.declared.InferSortId.{InferSortId}
 use Rattle.unification.specs.declared.Lengths.{Lengths}
-use Rattle.unification.specs.declared.Related.{Related}
-use Rattle.unification.specs.declared.Related.TheVariants.{These, NoList, Full as Ended}
-use Rattle.unification.specs.Making.{Makes, made, no_room, ◌and-then◌, intern_container}
+use Rattle.unification.specs.Making.{Makes, made, no_room, intern_container}
 use Rattle.unification.specs.Inner.Making.{lent}
-use Rattle.related_sorts.specs.Inner.Outcome.{related_made}
 use Rattle.inference.specs.declared.LitKind.{LitKind}
 use Rattle.inference.specs.Search.{Try, wider_tries, narrower_tries, lit_component, lit_tries}
 use Rattle.search_state.specs.declared.Pairs.{Pairs}
@@ -21,7 +17,7 @@ use Rattle.search_state.specs.declared.Pairs.TheVariants.{One}
 use Rattle.search_state.specs.declared.Tries.{Tries}
 use Rattle.search_state.specs.declared.LitAt.{LitAt}
 use Rattle.search_state.specs.declared.LitAt.TheVariants.{Other}
-use Rattle.search_state.specs.Inner.Leaves.{places_of, tries_from, widened, FewTries, lit_number}
+use Rattle.search_state.specs.Inner.Leaves.{place_at, tries_from, lit_number}
 
 -- the places of a try
 abbrev pub pairs_of : Try → Pairs
@@ -41,7 +37,7 @@ pub record LitTries (kind : LitKind) (id : InferSortId) (r : Tries) : Type 0 whe
   pub says : tries_from r 0 ≡ lit_tries kind id.0
   pub few : r.count ≤ 4
   pub first : r.first ≤ 1
-  pub places : (j : ℕ) → j < r.count → get_or (places_of r.ids) j 0 < 6
+  pub places : (j : ℕ) → j < r.count → place_at r j < 6
   pub other : r.other ≡ id
 
 -- A container that is interned, whatever the nodes are.
@@ -62,21 +58,3 @@ pub record ListedTries (up : Bool) (other : ℕ) (ps : List ℕ) (r : Tries) : T
   pub says : tries_from r 0 ≡ tries_against up other 1 ps
   pub few : r.count ≤ 4
   pub first : r.first ≡ 1
-
--- the lengths after listing
-abbrev pub lengths_after : Related → Lengths
-lengths_after (These t k) = k
-lengths_after (NoList k) = k
-lengths_after (Ended c k) = k
-
--- room that ends is 15 or 16
-abbrev pub Coded : Related → Type 0
-Coded (These t k) = Unit {0}
-Coded (NoList k) = Unit {0}
-Coded (Ended c k) = (c ≡ 15) ⊎ (c ≡ 16)
-
--- of whatever was listed, in any lists
-pub record AsTries (up : Bool) (other : ℕ) (found : Related) (r : Result (Option Tries) Full) : Type 0 where
-  pub says : (ws ns : List ℕ)
-      → widened ws ns (lengths_after found) r ≡ (related_made ws ns found and-then (λ ps W. made (tries_against up other 1 ps) W))
-  pub few : FewTries r

@@ -2,7 +2,7 @@
 -- Assumes nothing.
 use Rattle.std.proofs.Common.{◌∙◌, refl, sym, ap, subst, length, false, arith}
 use Rattle.std.specs.Prelude.{Ok}
-use Rattle.unification.specs.Trail.{count_of}
+use Rattle.search_state.specs.Inner.Leaves.{trail_after}
 use Rattle.search_state.specs.declared.Step.TheVariants.{Component}
 use Rattle.search_state.specs.Inner.Leaves.{given_back_to}
 use Rattle.search_state.specs.Inner.Searching.{trying, Comes as ComesIn}
@@ -32,7 +32,7 @@ attempt-resume-found-requires t c =
     let q = c.push-then.ensures.2.0 ∙ c.unify_pairs.ensures.1 in (
       omega (arith, c.decreases, ap (λ (l : Lists). work l.given.sizes.constraints c.args.next) q),
       asked_bound c.args.search.now c.push-then.new.search c.push-then.result q _ _ _
-          (rw c.push-then.ensures.2.1 (at.goes_on _ _ _ _ _ _ _ _ c.args.step _ c.requires.0 _ _ _ _ c.unify_pairs.ensures.0 _ c.in-Yes.is _ _
+          (rw c.push-then.ensures.2.1 (at.goes_on _ _ _ _ _ _ _ _ c.args.step _ c.requires.0 _ _ _ _ c.unify_pairs.ensures.0 _ c.in-Some.is _ _
           c.push-then.ensures.0 c.push-then.ensures.1)),
     )
 
@@ -40,13 +40,13 @@ pub attempt-roll_back-requires : goal.attempt-roll_back-requires
 attempt-roll_back-requires t c =
     let s = c.args.search.now in
     let u = c.unify_pairs.ensures.0 in
-    at.undo_room _ _ _ _ _ _ _ _ c.args.step _ c.requires.0 _ _ _ _ u _ (ap count_of c.in-Yes.is) c.resume-found.new.search.scratch.now
+    at.undo_room _ _ _ _ _ _ _ _ c.args.step _ c.requires.0 _ _ _ _ u _ (ap (trail_after c.args.at.trail) c.in-Some.is) c.resume-found.new.search.scratch.now
     (c.resume-found.ensures.comes.path.long ∙ (ap length c.push-then.ensures.0
     ∙ (at.step_long s.lists.now s.sizes c.requires.0.sized s.scratch.now c.unify_pairs.new.search.scratch.now (omega (arith, c.requires.0.long, u.long))
     u.rest c.args.at c.args.step ∙ u.long)))
 
-pub attempt-returns-in-Yes : goal.attempt-returns-in-Yes
-attempt-returns-in-Yes t c =
+pub attempt-returns : goal.attempt-returns
+attempt-returns t c =
     let s = c.args.search.now in
     let u = c.resume-found.new.search in
     let v = c.roll_back.new.search in
@@ -58,24 +58,23 @@ attempt-returns-in-Yes t c =
           subst (λ (l : Lists). ComesIn s.lists.now s.sizes s.sorts.now s.nodes.now s.binds.now s.scratch.now (state_of s) c.args.at
           (trying s.lists.now s.sizes s.scratch.now c.args.at c.args.pairs c.args.step c.args.next) l.sorts l.nodes v.binds.now v.scratch.now
           (answer_of (record { lengths = l.lengths; best = has_best l.best; tied = is_tied l.best }) c.resume-found.result)) (sym r.1)
-          (rw r.2 (at.attempt_yes _ _ _ _ _ _ _ _ c.args.step _ c.requires.0 c.args.pairs _ _ _ c.unify_pairs.ensures.0 _ c.in-Yes.is _ _
+          (rw r.2 (at.attempt_yes _ _ _ _ _ _ _ _ c.args.step _ c.requires.0 c.args.pairs _ _ _ c.unify_pairs.ensures.0 _ c.in-Some.is _ _
           c.push-then.ensures.0 c.push-then.ensures.1 u.sorts.now u.nodes.now u.binds.now u.scratch.now (answer_of (state_of u) c.resume-found.result)
           (rw c.push-then.ensures.2.1 at (comes_bound s c.push-then.new.search c.push-then.result q _ _ _ c.resume-found.ensures)) _ r.0));
     }
 
-pub attempt-returns-in-No : goal.attempt-returns-in-No
-attempt-returns-in-No t c =
+pub attempt-returns-in_default : goal.attempt-returns-in_default
+attempt-returns-in_default t c =
     let s = c.args.search.now in
-    let v = c.roll_back-in-No.new.search in
-    let r = c.roll_back-in-No.ensures in
-    let q = r.1 ∙ c.unify_pairs.ensures.1 in
+    let v = c.unify_pairs.new.search in
+    let q = c.unify_pairs.ensures.1 in
     record {
       problem = ap (λ (l : Lists). l.given) q;
       comes =
           subst (λ (l : Lists). ComesIn s.lists.now s.sizes s.sorts.now s.nodes.now s.binds.now s.scratch.now (state_of s) c.args.at
           (trying s.lists.now s.sizes s.scratch.now c.args.at c.args.pairs c.args.step c.args.next) l.sorts l.nodes v.binds.now v.scratch.now
           (answer_of (record { lengths = l.lengths; best = has_best l.best; tied = is_tied l.best }) (Ok false))) (sym q)
-          (rw r.2 (at.attempt_no _ _ _ _ _ _ _ _ c.args.step _ c.requires.0 c.args.pairs _ _ _ c.unify_pairs.ensures.0 _ c.in-No.is _ r.0));
+          (at.attempt_no _ _ _ _ _ _ _ _ c.args.step _ c.requires.0 c.args.pairs _ _ _ c.unify_pairs.ensures.0 (not_some _ c.in_default.not-Some));
     }
 
 -- `resume`: what a value names as coming next is the definition of going on.

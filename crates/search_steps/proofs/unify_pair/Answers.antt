@@ -1,7 +1,0 @@
--- `unify_pair` meets its contract: the trail is the front of the scratch. Assumes nothing.
-use Rattle.std.proofs.Common.{refl}
-use Rattle.search_steps.proofs.Trying as law
-use Rattle.search_steps.proofs.unify_pair.Goals as goal
-
-pub returns : goal.returns
-returns c = (law.at_the_front _ _ _ _ _ _ _ c.requires.3 _ _ _ c.unify.auto.trail c.unify.ensures, refl)
