@@ -23,7 +23,7 @@ ghost use Rattle.search_state.specs.Inner.Leaves.{branch_after};
 ghost use Rattle.search_state.specs.Inner.Solving.{KeepsRest, OnlyBinds, OnlyScratch, OnlySorts, lent_of};
 ghost use Rattle.search_steps.specs.Inner.Steps.{pairs_of, lit_row, LitTries, InternsContainer, ListedTries};
 
-use infer_nodes::{Bindings, Places, counts_of, taken_apart, with_counts};
+use infer_nodes::{Bindings, Places, counts_of, with_counts};
 use inference::LitKind;
 use related_sorts::{Arena, Listed};
 use resolved_sort::{ComplexSort, NoRoom, ResolvedSort, Sort, SortId};
@@ -244,7 +244,7 @@ pub fn lit_at(search: &Search<'_>, id: InferSortId, kind: LitKind) -> LitAt
         lengths,
     };
     let bindings = Bindings { places, binds };
-    match taken_apart(bindings.shallow_normalize(id)) {
+    match Place::from(bindings.shallow_normalize(id)) {
         Place::Sort(sort) => {
             let counts = counts_of(lengths);
             let sorts = Sorts { words, counts };

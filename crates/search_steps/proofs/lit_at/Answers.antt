@@ -14,7 +14,7 @@ pub returns-in-Sort : goal.returns-in-Sort
 returns-in-Sort c =
     let a = c.args in
     let s = a.search.now in
-    let q = apart.is_sort_lem _ _ c.taken_apart.ensures _ c.in-Sort.is in
+    let q = apart.is_sort_lem _ _ c.from.ensures _ c.in-Sort.is in
     literal.at_row s.sorts.now s.nodes.now s.binds.now s.lengths c.requires.0 a.kind a.id.0 c.requires.1 _
     c.shallow_normalize.ensures q.0 _ (c.get.ensures ∙ ap (row_at s.sorts.now) q.1) _ c.lit_at_row.ensures
 
@@ -22,7 +22,7 @@ pub returns-in-Var : goal.returns-in-Var
 returns-in-Var c =
     let a = c.args in
     let s = a.search.now in
-    let n = apart.is_node _ _ c.taken_apart.ensures _ c.in-Node.is in
+    let n = apart.is_node _ _ c.from.ensures _ c.in-Node.is in
     literal.free_at_variable s.sorts.now s.nodes.now s.binds.now s.lengths c.requires.0 a.kind a.id.0 c.requires.1 _
     c.shallow_normalize.ensures n.0 _ (c.node.ensures ∙ ap (node_at s.nodes.now) n.1) _ c.in-Var.is
 
@@ -30,6 +30,6 @@ pub returns-in_default : goal.returns-in_default
 returns-in_default c =
     let a = c.args in
     let s = a.search.now in
-    let n = apart.is_node _ _ c.taken_apart.ensures _ c.in-Node.is in
+    let n = apart.is_node _ _ c.from.ensures _ c.in-Node.is in
     literal.other_at_node s.sorts.now s.nodes.now s.binds.now s.lengths c.requires.0 a.kind a.id.0 c.requires.1 _
     c.shallow_normalize.ensures n.0 _ (c.node.ensures ∙ ap (node_at s.nodes.now) n.1) c.in_default.not-Var
