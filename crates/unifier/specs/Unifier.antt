@@ -22,7 +22,7 @@ CanTry U = Trying U.places.sorts.now U.places.nodes.now U.binds.now U.trail.now 
 abbrev pub IsFree : Unifier → ℕ → Type 0
 IsFree U v = Free U.binds.now U.places.lengths v
 
--- V is of the places of U, and holds the same words for the bindings and the trail
+-- V is of the places of U, and has the same lent memory for the bindings and the trail
 abbrev pub Keeps : Unifier → Unifier → Type 0
 Keeps U V =
     (V.places ≡ U.places)

@@ -171,11 +171,11 @@ impl Unifier<'_, '_> {
             × (self.new.trail.now ≡ self.old.trail.now)
             × (self.new.count ≡ base) }
     {
-        for i in (base..self.count).rev() {
-            let var = self.trail[i as usize];
-            put(self.binds, var as usize, FREE_WORD);
-        }
+        let count = self.count;
         self.count = base;
+        let binds = &mut *self.binds;
+        let trail = &mut *self.trail;
+        undo(binds, trail, base, count);
     }
 }
 

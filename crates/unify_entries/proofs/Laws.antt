@@ -18,14 +18,12 @@ use Rattle.resolved_sort.specs.Entries.{refused_or}
 use Rattle.resolved_sort.proofs.FirstFailing.{first_fails, first_passes, cons_passes}
 use Rattle.resolved_sort.proofs.Testing.{fails, passes, first_refuses, second_decides, first_of_two, second_of_two, both_of_two}
 use Rattle.unification.specs.declared.Lengths.{Lengths}
-use Rattle.unification.specs.declared.Tried.{Tried}
-use Rattle.unification.specs.declared.Tried.TheVariants.{Yes as TriedYes, No as TriedNo}
 use Rattle.unification.specs.Nodes.{max_nodes, max_node_entries, max_vars, node_entries_at, full_nodes, is_place, shape_at, binds_of}
 use Rattle.unification.specs.Unify.{Unifies, yes_with, unify}
 use Rattle.unification.specs.Acyclic.{acyclic}
 use Rattle.unification.specs.NodeChecks.{nodes_within_lent, bindings_within_lent, nodes_fine, bindings_fine, node_checks, place_checks, unify_checks}
 use Rattle.unification.specs.Checked.{lists_of, Ready}
-use Rattle.unification.specs.Trail.{undo, frees, TryLeaves}
+use Rattle.unification.specs.Trail.{undo, answer_by, UnifyLeaves}
 use Rattle.unification.specs.UnifyEntry.{binding_words, BindsLeft, binds_left, binds_left_by, unify_entry}
 use Rattle.unification.proofs.BindingWords.{words_of_binds}
 use Rattle.unification.proofs.Equations.{frees_few}
@@ -187,32 +185,29 @@ module _ (ws ns bs : List ℕ) (k : Lengths) (q : Ready ws ns bs k) where
     short = omega (arith, e);
   }
 
-  module _ (U : Unifies) (ts bs₁ ts₁ : List ℕ) (t : Tried) (x : TryLeaves ws ns k U bs ts 0 bs₁ ts₁ t) where
-    pub yes_leaves : (c : ℕ) → t ≡ TriedYes c → binds_left bs₁ (Ok true) ≡ binds_left_by bs k.variables U
+  module _ (U : Unifies) (ts bs₁ ts₁ : List ℕ) (d : ℕ) where
+    pub yes_leaves : (r : Bool) → r ≡ true → UnifyLeaves ws ns k U bs ts 0 bs₁ ts₁ d r → binds_left bs₁ (Ok true) ≡ binds_left_by bs k.variables U
     unfolding binds_left_by
-    yes_leaves c e = sym (ap (binds_left_by bs k.variables) (answer c e) ∙ ap (λ xs. binds_left xs (Ok true)) words)
+    yes_leaves r e x = sym (ap (binds_left_by bs k.variables) (x.says ∙ ap (λ y. answer_by y (binds_of bs₁ k.variables)) e) ∙ ap (λ xs. binds_left xs (Ok true)) words)
       where
-        answer : (c : ℕ) → t ≡ TriedYes c → U ≡ yes_with (binds_of bs₁ k.variables)
-        answer c e = x.says ∙ rw e
-
         words : binding_words (binds_of bs₁ k.variables) ++ drop k.variables bs ≡ bs₁
         words =
             ap₂ (λ (xs ys : List ℕ). xs ++ ys) (words_of_binds bs₁ k.variables x.ready.long) (sym x.past)
             ∙ take-append-drop k.variables bs₁
 
-    module _ (c : ℕ) (e : t ≡ TriedNo c) where
-      pub trail_long : length ts₁ ≡ 512 → (0 ≤ c) × (c ≤ length ts₁)
-      trail_long g = (omega arith, omega (arith, g, ends, frees_few (binds_of bs k.variables), length_binds bs k.variables, q.nodes.variables))
-        where
-          ends : c + frees (binds_of bs₁ k.variables) ≡ 0 + frees (binds_of bs k.variables)
-          ends = (subst (λ z. TryLeaves ws ns k U bs ts 0 bs₁ ts₁ z) e x).spent
+    module _ (r : Bool) (x : UnifyLeaves ws ns k U bs ts 0 bs₁ ts₁ d r) where
+      pub trail_long : length ts₁ ≡ 512 → (0 ≤ d) × (d ≤ length ts₁)
+      trail_long g = (omega arith, omega (arith, g, x.spent, frees_few (binds_of bs k.variables), length_binds bs k.variables, q.nodes.variables))
 
-      pub no_leaves : (bs₂ : List ℕ) → bs₂ ≡ undo ts₁ 0 (c - 0) bs₁ → binds_left bs₂ (Ok false) ≡ binds_left_by bs k.variables U
+      pub no_leaves : r ≡ false → (bs₂ : List ℕ) → bs₂ ≡ undo ts₁ 0 (d - 0) bs₁ → binds_left bs₂ (Ok false) ≡ binds_left_by bs k.variables U
       unfolding binds_left_by
-      no_leaves bs₂ u = sym (ap (binds_left_by bs k.variables) y.says ∙ ap (λ xs. binds_left xs (Ok false)) (sym (u ∙ y.undone)))
-        where
-          y : TryLeaves ws ns k U bs ts 0 bs₁ ts₁ (TriedNo c)
-          y = subst (λ z. TryLeaves ws ns k U bs ts 0 bs₁ ts₁ z) e x
+      no_leaves e bs₂ u =
+          sym (ap (binds_left_by bs k.variables) (x.says ∙ ap (λ y. answer_by y (binds_of bs₁ k.variables)) e)
+          ∙ ap (λ xs. binds_left xs (Ok false)) (sym (u ∙ x.undone)))
+
+-- the bindings under another name
+pub words_left : (bs bs₁ : List ℕ) (a : Result Bool Refusal) {O : BindsLeft} → bs ≡ bs₁ → binds_left bs₁ a ≡ O → binds_left bs a ≡ O
+words_left bs bs₁ a {O} e = subst (λ (xs : List ℕ). binds_left xs a ≡ O) (sym e)
 
 -- the entry, by what the checks found
 module _ (ws : List ℕ) (n e : ℕ) (ns : List ℕ) (m d : ℕ) (bs : List ℕ) (v l r : ℕ) (t : Tested) (et : t ≡ first_failing (unify_checks ws n e ns m d bs v l r)) where

@@ -12,134 +12,115 @@ ghost use Rattle.unification.specs.UnifyEntry.{binds_left, binds_left_by, unify_
 ghost use Rattle.unify_entries.specs.Packed.{pack_unified, packed_binds, pack_binds_left};
 
 use entry_answers::pack;
+use infer_nodes::Places;
 use node_checks::{bindings_within_lent, is_place, nodes_within_lent, test_nodes};
 use resolved_sort::{Refusal, SORT_WORDS};
 use sort_checks::{test_sorts, within_lent};
-use unification::{InferSortId, Lengths, MAX_VARS, NODE_WORDS, Tried};
-use unifier::undo;
+use unification::{InferSortId, Lengths, MAX_VARS, NODE_WORDS};
+use unifier::Unifier;
 use words::BIT_8;
 
-// Checks 12 and 14: the first that fails.
-fn test_places(
-    sorts: &[u16],
-    sort_count: usize,
-    nodes: &[u16],
-    node_count: usize,
-    lhs: InferSortId,
-    rhs: InferSortId,
-) -> Result<(), Refusal>
-    ensures { result
-        ≡ first_failing
-        (place_checks sorts.now sort_count nodes.now node_count lhs.0 rhs.0) }
-{
-    if !is_place(sort_count, node_count, lhs) {
-        return Err(Refusal::NotInList);
-    }
-    if !is_place(sort_count, node_count, rhs) {
-        return Err(Refusal::NotInList);
-    }
-    if sorts.len() < SORT_WORDS {
-        return Err(Refusal::TooShort);
-    }
-    if nodes.len() < NODE_WORDS {
-        return Err(Refusal::TooShort);
-    }
-    Ok(())
-}
-
-// Checks 5 to 7, 12 and 14: the first that fails.
-fn test_rest(
-    sorts: &[u16],
-    sort_count: usize,
-    nodes: &[u16],
-    node_count: usize,
-    node_entry_count: usize,
-    binds: &[u16],
-    var_count: usize,
-    lhs: InferSortId,
-    rhs: InferSortId,
-) -> Result<(), Refusal>
-    requires { (node_count ≤ max_nodes) × (var_count ≤ max_vars) }
-    ensures { result
-        ≡ first_failing (node_checks nodes.now node_count node_entry_count sort_count
-        binds.now var_count
-        ++ place_checks sorts.now sort_count nodes.now node_count lhs.0 rhs.0) }
-{
-    test_nodes(
-        sort_count,
-        nodes,
-        node_count,
-        node_entry_count,
-        binds,
-        var_count,
-    )?;
-    test_places(sorts, sort_count, nodes, node_count, lhs, rhs)
-}
-
-// The checks of unify: the first that fails.
-fn test_unify(
-    sorts: &[u16],
+// What a caller lends, with its counts.
+#[derive(Clone, Copy)]
+struct Lent<'a> {
+    sorts: &'a [u16],
     sort_count: usize,
     entry_count: usize,
-    nodes: &[u16],
+    nodes: &'a [u16],
     node_count: usize,
     node_entry_count: usize,
-    binds: &[u16],
+    binds: &'a [u16],
     var_count: usize,
-    lhs: InferSortId,
-    rhs: InferSortId,
-) -> Result<(), Refusal>
-    ensures { result
-        ≡ first_failing (unify_checks sorts.now sort_count entry_count
-        nodes.now node_count node_entry_count binds.now var_count lhs.0
-        rhs.0) }
-{
-    if !within_lent(sorts, sort_count, entry_count) {
-        return Err(Refusal::NotLent);
+}
+
+impl Lent<'_> {
+    // Checks 12 and 14: the first that fails.
+    fn test_places(&self, lhs: InferSortId, rhs: InferSortId) -> Result<(), Refusal>
+        ensures { result
+            ≡ first_failing (place_checks self.now.sorts.now self.now.sort_count
+            self.now.nodes.now self.now.node_count lhs.0 rhs.0) }
+    {
+        if !is_place(self.sort_count, self.node_count, lhs) {
+            return Err(Refusal::NotInList);
+        }
+        if !is_place(self.sort_count, self.node_count, rhs) {
+            return Err(Refusal::NotInList);
+        }
+        if self.sorts.len() < SORT_WORDS {
+            return Err(Refusal::TooShort);
+        }
+        if self.nodes.len() < NODE_WORDS {
+            return Err(Refusal::TooShort);
+        }
+        Ok(())
     }
-    if !nodes_within_lent(nodes, node_count, node_entry_count) {
-        return Err(Refusal::NotLent);
+
+    // Checks 5 to 7, 12 and 14: the first that fails.
+    fn test_rest(&self, lhs: InferSortId, rhs: InferSortId) -> Result<(), Refusal>
+        requires { (self.now.node_count ≤ max_nodes) × (self.now.var_count ≤ max_vars) }
+        ensures { result
+            ≡ first_failing (node_checks self.now.nodes.now self.now.node_count
+            self.now.node_entry_count self.now.sort_count self.now.binds.now
+            self.now.var_count
+            ++ place_checks self.now.sorts.now self.now.sort_count
+            self.now.nodes.now self.now.node_count lhs.0 rhs.0) }
+    {
+        test_nodes(
+            self.sort_count,
+            self.nodes,
+            self.node_count,
+            self.node_entry_count,
+            self.binds,
+            self.var_count,
+        )?;
+        self.test_places(lhs, rhs)
     }
-    if !bindings_within_lent(binds, var_count) {
-        return Err(Refusal::NotLent);
+
+    // The checks of unify: the first that fails.
+    fn test_unify(&self, lhs: InferSortId, rhs: InferSortId) -> Result<(), Refusal>
+        ensures { result
+            ≡ first_failing (unify_checks self.now.sorts.now self.now.sort_count
+            self.now.entry_count self.now.nodes.now self.now.node_count
+            self.now.node_entry_count self.now.binds.now self.now.var_count
+            lhs.0 rhs.0) }
+    {
+        if !within_lent(self.sorts, self.sort_count, self.entry_count) {
+            return Err(Refusal::NotLent);
+        }
+        if !nodes_within_lent(self.nodes, self.node_count, self.node_entry_count) {
+            return Err(Refusal::NotLent);
+        }
+        if !bindings_within_lent(self.binds, self.var_count) {
+            return Err(Refusal::NotLent);
+        }
+        test_sorts(self.sorts, self.sort_count, self.entry_count)?;
+        self.test_rest(lhs, rhs)
     }
-    test_sorts(sorts, sort_count, entry_count)?;
-    test_rest(
-        sorts,
-        sort_count,
-        nodes,
-        node_count,
-        node_entry_count,
-        binds,
-        var_count,
-        lhs,
-        rhs,
-    )
 }
 
 // Unify on checked lists; a no frees again what was bound.
-fn unify_alone(
-    sorts: &[u16],
-    nodes: &[u16],
-    binds: &mut [u16],
-    lengths: Lengths,
-    lhs: InferSortId,
-    rhs: InferSortId,
-) -> Result<bool, Refusal>
-    requires { Ready sorts.now nodes.now binds.old lengths × Placed lengths lhs.0 × Placed lengths rhs.0 }
-    ensures { binds_left binds.new result
-        ≡ binds_left_by binds.old lengths.variables
-        (unifyOf (graph_of sorts.now nodes.now lengths)
-        (binds_of binds.old lengths.variables) lhs.0 rhs.0) }
+fn unify_alone(places: Places<'_>, binds: &mut [u16], lhs: InferSortId, rhs: InferSortId) -> bool
+    requires { Ready places.sorts.now places.nodes.now binds.old places.lengths
+        × Placed places.lengths lhs.0
+        × Placed places.lengths rhs.0 }
+    ensures { binds_left binds.new (Ok result)
+        ≡ binds_left_by binds.old places.entry.lengths.variables
+        (unifyOf
+        (graph_of places.entry.sorts.now places.entry.nodes.now places.entry.lengths)
+        (binds_of binds.old places.entry.lengths.variables) lhs.0 rhs.0) }
 {
     let mut trail = [0; MAX_VARS];
-    match unifier::unify(sorts, nodes, binds, &mut trail, lengths, 0, lhs, rhs) {
-        Tried::Yes(_) => Ok(true),
-        Tried::No(count) => {
-            undo(binds, &trail, 0, count);
-            Ok(false)
-        }
+    let mut unifier = Unifier {
+        places,
+        binds,
+        trail: &mut trail,
+        count: 0,
+    };
+    if unifier.unify(lhs, rhs) {
+        return true;
     }
+    unifier.undo(0);
+    false
 }
 
 // Makes two places denote the same sort, binding variables as needed, and answers whether they are
@@ -162,18 +143,17 @@ pub fn unify(
         ≡ unify_entry sorts.now sort_count entry_count nodes.now node_count
         node_entry_count binds.old var_count lhs.0 rhs.0 }
 {
-    test_unify(
+    let lent = Lent {
         sorts,
         sort_count,
         entry_count,
         nodes,
         node_count,
         node_entry_count,
-        binds,
+        binds: &*binds,
         var_count,
-        lhs,
-        rhs,
-    )?;
+    };
+    lent.test_unify(lhs, rhs)?;
     let lengths = Lengths {
         sorts: sort_count as u16,
         entries: entry_count as u16,
@@ -181,7 +161,12 @@ pub fn unify(
         arguments: node_entry_count as u16,
         variables: var_count as u16,
     };
-    unify_alone(sorts, nodes, binds, lengths, lhs, rhs)
+    let places = Places {
+        sorts,
+        nodes,
+        lengths,
+    };
+    Ok(unify_alone(places, binds, lhs, rhs))
 }
 
 // The values of an answer in their fields, above a code of 0.

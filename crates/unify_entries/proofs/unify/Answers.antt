@@ -45,6 +45,14 @@ overflow_cast-lengths-5 c = omega (
       c.args.binds.now c.args.var_count c.args.lhs.0 c.args.rhs.0 _ c.in_ok-test_unify.ensures refl)).0,
 )
 
+pub invariant_of-places : goal.invariant_of-places
+invariant_of-places c = record {
+  checked = (law.ready c.args.sorts.now c.args.sort_count c.args.entry_count c.args.nodes.now c.args.node_count c.args.node_entry_count
+      c.args.binds.now c.args.var_count c.args.lhs.0 c.args.rhs.0
+      (law.none_fails c.args.sorts.now c.args.sort_count c.args.entry_count c.args.nodes.now c.args.node_count c.args.node_entry_count
+      c.args.binds.now c.args.var_count c.args.lhs.0 c.args.rhs.0 _ c.in_ok-test_unify.ensures refl)).nodes;
+}
+
 pub unify_alone-requires : goal.unify_alone-requires
 unify_alone-requires c =
     let none_failed = law.none_fails c.args.sorts.now c.args.sort_count c.args.entry_count c.args.nodes.now c.args.node_count c.args.node_entry_count

@@ -1,7 +1,7 @@
 -- One after the other. Assumes nothing.
 use Rattle.std.proofs.Common.{refl, ◌∙◌}
 use Rattle.resolved_sort.proofs.Testing as law
-use Rattle.unify_entries.proofs.test_rest.Goals as goal
+use Rattle.unify_entries.proofs.Lent.test_rest.Goals as goal
 
 pub returns-in_err-test_nodes : goal.returns-in_err-test_nodes
 returns-in_err-test_nodes c =
