@@ -6,8 +6,9 @@ use mathlib.Core.Bool.{Bool, true, false, cond, ◌&&◌, and-true, and_assoc}
 use Prim.Native.Nat.{ℕ, zero, suc, ◌+◌, ◌-◌, ◌<◌, ◌≤◌}
 use native.Mathlib.Omega.{arith}
 use native.Mathlib.Numerals.{add-one}
-use lib.ListN.{length, get_or, take, drop, set, replicate, drop_of_length-le}
-use lib.Seq.{drop-cons, take-suc, take-suc-set, take_all}
+use Rattle.std.specs.List.{list_all}
+use lib.ListN.{length, get_or, take, set, replicate}
+use lib.Seq.{take-suc, take-suc-set, take_all}
 use borrow.Author.Tests.{eq-eqb, ne_eqb}
 use Rattle.resolved_sort.specs.declared.Run.{Run}
 use Rattle.resolved_sort.specs.declared.ComplexSort.{ComplexSort}
@@ -136,19 +137,10 @@ module _ (bs : List ℕ) (v : ℕ) (ms : List Bool) where
   all_vars fs x i e = subst (λ (j : ℕ). take j fs ≡ take j new) i e ∙ take_all v new (omega (arith, length_vars ms (binds_of bs v), length_binds bs v))
 
 -- all flags
-pub flags_rest : (fs : List Bool) (i : ℕ) → i < length fs → all_true fs ≡ all_true (drop i fs) → all_true fs ≡ (get_or fs i false && all_true (drop (i + 1) fs))
+pub flags_set : (fs : List Bool) → list_all (λ b. b) fs ≡ all_true fs
 unfolding all_true
-flags_rest fs i l e = e ∙ (ap all_true (drop-cons fs i false l) ∙ ap (λ (j : ℕ). get_or fs i false && all_true (drop j fs)) (sym (add-one i)))
-
-pub flag_open : (fs : List Bool) (i : ℕ) → i < length fs → all_true fs ≡ all_true (drop i fs) → get_or fs i false ≡ false → false ≡ all_true fs
-flag_open fs i l e x = sym (flags_rest fs i l e ∙ ap (λ b. b && all_true (drop (i + 1) fs)) x)
-
-pub flag_passed : (fs : List Bool) (i : ℕ) → i < length fs → all_true fs ≡ all_true (drop i fs) → get_or fs i false ≡ true → all_true fs ≡ all_true (drop (i + 1) fs)
-flag_passed fs i l e x = flags_rest fs i l e ∙ ap (λ b. b && all_true (drop (i + 1) fs)) x
-
-pub flags_all : (fs : List Bool) (i : ℕ) → length fs ≤ i → all_true fs ≡ all_true (drop i fs) → true ≡ all_true fs
-unfolding all_true
-flags_all fs i l e = sym (e ∙ ap all_true (drop_of_length-le fs {i = i} l))
+flags_set [] = refl
+flags_set (b ∷ fs) = ap (λ c. b && c) (flags_set fs)
 
 -- rounds
 pub no_rounds : (ns bs : List ℕ) (m v : ℕ) → v ≤ 512 → take v (replicate 512 false) ≡ rounds ns m (binds_of bs v) 0
@@ -178,5 +170,3 @@ pub ruleset bindings = (free_settled, bound_settled)
 pub ruleset arguments = (run_begins, argument_open, argument_passed, run_ends)
 
 pub ruleset node_ways = (generic_settled, domain_open, range_decides, variable_settled)
-
-pub ruleset flags = (flag_open, flag_passed, flags_all)

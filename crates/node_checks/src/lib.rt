@@ -50,16 +50,6 @@ pub fn is_place(n: usize, m: usize, p: InferSortId) -> bool
     }
 }
 
-// Whether each argument of a run is a place among n sorts and m nodes.
-fn arguments_placed(nodes: &[u16], n: usize, m: usize, run: Run) -> bool
-    ensures { result ≡ all_below run.count (arg_placed nodes.now n m run.start) }
-{
-    (0..run.count).all(|j| {
-        let at = NODE_ENTRIES_AT + ((run.start as usize) + (j as usize));
-        is_place(n, m, InferSortId(word(nodes, at)))
-    })
-}
-
 // Whether a node has a known kind: a container, a function or a variable.
 #[tactic(auto, unfolding(unification::specs::NodeChecks::node_kind_fine))]
 fn kind_fine(kind: u16) -> bool
@@ -68,53 +58,74 @@ fn kind_fine(kind: u16) -> bool
     kind == VARIABLE_KIND || (FIRST_CONTAINER <= kind && kind <= FUNCTION_KIND)
 }
 
-// Whether a node that is a function has at most 16 arguments, a run inside the d entries, and parts that are places
-// below it.
-#[tactic(auto, unfolding(unification::specs::NodeChecks::node_parts_fine))]
-fn function_fine(
-    nodes: &[u16],
-    d: usize,
-    n: usize,
-    v: usize,
-    id: NodeId,
-    domain: Run,
-    range: InferSortId,
-) -> bool
-    ensures { result ≡ node_parts_fine nodes.now d n v id.0 (InferSort.Function domain range) }
-{
-    domain.count <= MAX_ARGUMENTS
-        && (domain.start as usize) + (domain.count as usize) <= d
-        && is_place(n, id.0 as usize, range)
-        && arguments_placed(nodes, n, id.0 as usize, domain)
+// Node storage as it was lent, with the counts given of it, and how many sorts and variables its parts may name.
+#[derive(Clone, Copy)]
+struct Lent<'a> {
+    words: &'a [u16],
+    nodes: usize,
+    entries: usize,
+    sorts: usize,
+    variables: usize,
 }
 
-// Whether the parts of a node are fine: places below it, and a variable below v.
-#[tactic(auto, unfolding(unification::specs::NodeChecks::node_parts_fine))]
-fn parts_fine(nodes: &[u16], d: usize, n: usize, v: usize, id: NodeId, says: InferSort) -> bool
-    ensures { result ≡ node_parts_fine nodes.now d n v id.0 says }
-{
-    match says {
-        InferSort::Generic { op: _, subsort } => is_place(n, id.0 as usize, subsort),
-        InferSort::Function { domain, range } => function_fine(nodes, d, n, v, id, domain, range),
-        InferSort::Var(var) => (var.0 as usize) < v,
+impl Lent<'_> {
+    // Whether each argument of a run is a place below this node.
+    fn arguments_placed(&self, id: NodeId, run: Run) -> bool
+        ensures { result ≡ all_below run.count (arg_placed self.now.words.now self.now.sorts id.0 run.start) }
+    {
+        (0..run.count).all(|j| {
+            let at = NODE_ENTRIES_AT + ((run.start as usize) + (j as usize));
+            is_place(self.sorts, id.0 as usize, InferSortId(word(self.words, at)))
+        })
     }
-}
 
-// Check 5: each of the m nodes is fine.
-fn nodes_fine(nodes: &[u16], m: usize, d: usize, n: usize, v: usize) -> bool
-    requires { m ≤ max_nodes }
-    ensures { result ≡ nodes_fine nodes.now m d n v }
-{
-    (0..m).all(|i| node_fine(nodes, d, n, v, NodeId(i as u16)))
-}
+    // Whether a node that is a function has at most 16 arguments, a run inside the entries, and parts that are places
+    // below it.
+    #[tactic(auto, unfolding(unification::specs::NodeChecks::node_parts_fine))]
+    fn function_fine(&self, id: NodeId, domain: Run, range: InferSortId) -> bool
+        ensures { result
+            ≡ node_parts_fine self.now.words.now self.now.entries self.now.sorts
+            self.now.variables id.0 (InferSort.Function domain range) }
+    {
+        domain.count <= MAX_ARGUMENTS
+            && (domain.start as usize) + (domain.count as usize) <= self.entries
+            && is_place(self.sorts, id.0 as usize, range)
+            && self.arguments_placed(id, domain)
+    }
 
-// Whether a node is fine.
-#[tactic(auto, unfolding(unification::specs::NodeChecks::node_fine))]
-fn node_fine(nodes: &[u16], d: usize, n: usize, v: usize, id: NodeId) -> bool
-    ensures { result ≡ node_fine nodes.now d n v id.0 }
-{
-    kind_fine(word(nodes, ROW_WORDS * (id.0 as usize)))
-        && parts_fine(nodes, d, n, v, id, node(nodes, id))
+    // Whether the parts of a node are fine: places below it, and a variable of the list.
+    #[tactic(auto, unfolding(unification::specs::NodeChecks::node_parts_fine))]
+    fn parts_fine(&self, id: NodeId, says: InferSort) -> bool
+        ensures { result
+            ≡ node_parts_fine self.now.words.now self.now.entries self.now.sorts
+            self.now.variables id.0 says }
+    {
+        match says {
+            InferSort::Generic { op: _, subsort } => is_place(self.sorts, id.0 as usize, subsort),
+            InferSort::Function { domain, range } => self.function_fine(id, domain, range),
+            InferSort::Var(var) => (var.0 as usize) < self.variables,
+        }
+    }
+
+    // Whether a node is fine.
+    #[tactic(auto, unfolding(unification::specs::NodeChecks::node_fine))]
+    fn node_fine(&self, id: NodeId) -> bool
+        ensures { result
+            ≡ node_fine self.now.words.now self.now.entries self.now.sorts self.now.variables id.0 }
+    {
+        kind_fine(word(self.words, ROW_WORDS * (id.0 as usize)))
+            && self.parts_fine(id, node(self.words, id))
+    }
+
+    // Check 5: each of the nodes is fine.
+    fn nodes_fine(&self) -> bool
+        requires { self.now.nodes ≤ max_nodes }
+        ensures { result
+            ≡ nodes_fine self.now.words.now self.now.nodes self.now.entries self.now.sorts
+            self.now.variables }
+    {
+        (0..self.nodes).all(|i| self.node_fine(NodeId(i as u16)))
+    }
 }
 
 // Check 6: each of the v bindings is free or names a place.
@@ -214,16 +225,10 @@ fn settle_vars(binds: &[u16], v: usize, flags: &[bool], vars: &mut [bool])
 }
 
 // Whether all flags are set.
-#[tactic(auto, using(crate::proofs::Settling::flags))]
 fn all_set(flags: &[bool]) -> bool
     ensures { result ≡ all_true flags.now }
 {
-    for i in 0..flags.len() {
-        if !flags[i] {
-            return false;
-        }
-    }
-    true
+    flags.iter().all(|&set| set)
 }
 
 // Check 7: no variable reaches itself.
@@ -257,7 +262,14 @@ pub fn test_nodes(
         ≡ first_failing (node_checks nodes.now node_count node_entry_count sort_count
         binds.now var_count) }
 {
-    if !nodes_fine(nodes, node_count, node_entry_count, sort_count, var_count) {
+    let lent = Lent {
+        words: nodes,
+        nodes: node_count,
+        entries: node_entry_count,
+        sorts: sort_count,
+        variables: var_count,
+    };
+    if !lent.nodes_fine() {
         return Err(Refusal::BadNode);
     }
     if !bindings_fine(binds, var_count, sort_count, node_count) {
