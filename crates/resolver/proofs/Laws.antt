@@ -57,7 +57,7 @@ use Rattle.unification.proofs.ResolvedSorts.{count, Formed, AllFormed, DefaultIn
 use Rattle.unification.proofs.ResolvedPlaces.{count_terms, terms_formed, value_formed, sort_place_is_found}
 use Rattle.unification.proofs.Resolved.{value_followed}
 use Rattle.unification.proofs.ResolvedCode as code
-use Rattle.infer_nodes.specs.Inner.Bound.{RunPlaced}
+use Rattle.infer_nodes.specs.Inner.Bound.{RunPlaced, BindsPass}
 use Rattle.infer_nodes.proofs.Shapes.{shape_of_variable}
 use Rattle.infer_nodes.proofs.Ways as ways
 
@@ -429,3 +429,7 @@ module _ (ws ns bs : List ℕ) (k : Lengths) (q : Ready ws ns bs k) (x : Default
                 (h ∙ ap (λ (j : ℕ). intern_at us K₂.sorts K₂.entries (function (look_all (trees us K₂.sorts)
                 (take j (sort_numbers a.ids))) (look (trees us K₂.sorts) c.0))) (sym (run_count s m)))
                 ∙ to_whole
+
+-- bindings that pass over these words and lengths, under other names
+pub pass_there : (ws us ns bs : List ℕ) (k j : Lengths) → us ≡ ws → j ≡ k → BindsPass ws ns bs k → BindsPass us ns bs j
+pass_there ws us ns bs k j e f p = subst (λ (vs : List ℕ). BindsPass vs ns bs j) (sym e) (subst (λ (i : Lengths). BindsPass ws ns bs i) (sym f) p)

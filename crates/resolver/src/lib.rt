@@ -14,7 +14,7 @@ ghost use Rattle.unification.specs.Resolve.{DefaultBelow, term_resolved};
 ghost use Rattle.infer_nodes.specs.Inner.Bound.{RunPlaced};
 ghost use Rattle.std.proofs.Math.Option.{some};
 
-use infer_nodes::{argument, counts_of, node, shallow_normalize, with_counts};
+use infer_nodes::{Bindings, Places, argument, counts_of, node, with_counts};
 use resolved_sort::{ARGUMENT_WORDS, Counts, Joined, NoRoom, Run, SortId};
 use sort_interner::SortInterner;
 use unification::{InferSort, InferSortId, Lengths, Place};
@@ -41,8 +41,16 @@ impl Resolver<'_> {
             ≡ some result.0 }
     {
         let sorts = interner.sorts();
-        let lengths = with_counts(self.lengths, sorts.counts);
-        shallow_normalize(sorts.words, self.nodes, self.binds, lengths, id)
+        let places = Places {
+            sorts: sorts.words,
+            nodes: self.nodes,
+            lengths: with_counts(self.lengths, sorts.counts),
+        };
+        let bindings = Bindings {
+            places,
+            binds: self.binds,
+        };
+        bindings.shallow_normalize(id)
     }
 
     // Extracts the resolved sort denoted by `id`; where a free variable remains, the default stands for it. Nothing
