@@ -1,5 +1,5 @@
 // Tokens of a line of sort text, over the line's bytes and a position. A position past the end counts as the end, so no
-// function here has a precondition.
+// function here asks anything of line or position.
 #![tactic(auto)]
 
 ghost use Rattle.std.specs.Prelude.{◌≡◌, ℕ, Bool, ◌-◌, take, drop};
@@ -12,8 +12,9 @@ ghost use Rattle.sort_lexer.specs.Inner.Meant.{meant, text_of};
 use resolved_sort::{ComplexSort, Sort};
 use sort_text::{op_word, sort_word};
 
-// A token of a line: a longest run of letters, `(`, `)`, `#`, `->`. The end of the line, and a byte that starts none of
-// these, count as tokens that cannot follow: where they stand is asked for as well.
+// A token of a line: a longest run of letters, `(`, `)`, `#`, `->`. The end of the line counts as a token; a byte that
+// starts none of these is one that cannot follow.
+// kept: End and Bad are tokens and no None, since where they stand is asked for as of any other.
 #[derive(Clone, Copy, Debug, PartialEq, Eq)]
 pub enum Token {
     End,
@@ -83,8 +84,8 @@ fn word_end(line: &[u8], at: usize) -> usize
     run_end(line, at, |b| b.is_ascii_alphabetic())
 }
 
-// The token that starts at `at` or after spaces there.
-fn token_at(line: &[u8], at: usize) -> Lexeme
+// The token of a line that starts at `at` or after spaces there.
+pub fn token_from(line: &[u8], at: usize) -> Lexeme
     ensures { result ≡ lexeme_of line.now at }
 {
     let from = skip_spaces(line, at);
@@ -159,11 +160,11 @@ impl<'a> Reader<'a> {
         Reader { line, at }
     }
 
-    // The token at the position.
+    // The token at the position or after spaces there.
     pub fn next_token(&self) -> Lexeme
         ensures { result ≡ lexeme_of self.now.line.now self.now.at }
     {
-        token_at(self.line, self.at)
+        token_from(self.line, self.at)
     }
 
     // What the word that a token stands for says.
@@ -172,13 +173,6 @@ impl<'a> Reader<'a> {
     {
         Word::spelled(between(self.line, found.at, found.next))
     }
-}
-
-// The next token of a reader at a position of a line: what the recogniser reads by.
-pub fn token_from(line: &[u8], at: usize) -> Lexeme
-    ensures { result ≡ lexeme_of line.now at }
-{
-    Reader::new(line, at).next_token()
 }
 
 const WORDS: [Word; 10] = [

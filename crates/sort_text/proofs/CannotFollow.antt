@@ -5,7 +5,6 @@ use mathlib.Core.Path.{◌≡◌, refl, sym, ◌∙◌, ap, subst}
 use mathlib.Core.Logic.{◌↔◌}
 use mathlib.Core.Bool.{Bool, true, false, cond}
 use mathlib.Core.List.{List, [], ◌∷◌, ◌++◌}
-use mathlib.Core.Option.{Option, none, some}
 use Prim.Native.Nat.{ℕ, zero, suc, ◌+◌, ◌-◌, ◌≤◌, ◌<◌}
 use native.Mathlib.Omega.{arith}
 use lib.ListN.{length, drop}
@@ -20,7 +19,7 @@ use Rattle.resolved_sort.specs.declared.Joined.TheVariants.{At, Nothing, Full}
 use Rattle.resolved_sort.specs.Storage.{sorts_of}
 use Rattle.resolved_sort.specs.Checks.{first_failing, Tested}
 use Rattle.resolved_sort.specs.Entries.{refused_or, Stored, stored}
-use Rattle.sort_text.specs.declared.Read.TheVariants.{Refused, NotASort}
+use Rattle.sort_text.specs.declared.Unread.TheVariants.{Refused, NotASort}
 use Rattle.sort_text.specs.Reading.{store, read_checks, read_left, stored_by, read_as_of, reading}
 use Rattle.sort_text.specs.Tokens.{is_letter, NextToken, end, word, open_bracket, close_bracket, hash, arrow, bad}
 use Rattle.sort_text.specs.Tokens.{run, past, skip, dash, start, next_at, next}
@@ -896,13 +895,13 @@ stuck_exactly bs cs = (stops_at_the_first_token_that_cannot_follow bs cs, λ x. 
     go x (stuck ds) e = ap stuck (first_that_cannot_follow_is_one bs ds cs (stops_at_the_first_token_that_cannot_follow bs ds e) x)
 
 -- of what the entry answers
-stored_is_a_sort : (ws : List ℕ) (n e : ℕ) (r : Stored) (j : Joined) (p : ℕ) → (stored_by ws n e r j).answer ≡ NotASort p → ⊥
+stored_is_a_sort : (ws : List ℕ) (n e : ℕ) (r : Stored) (j : Joined) (p : ℕ) → (stored_by ws n e r j).answer ≡ Err (NotASort p) → ⊥
 unfolding stored_by
 stored_is_a_sort ws n e r (At s k) p a = let z : ◌≡◌ {A = ℕ} 0 1 = cc in omega arith
 stored_is_a_sort ws n e r (Nothing k) p a = let z : ◌≡◌ {A = ℕ} 0 1 = cc in omega arith
 stored_is_a_sort ws n e r Full p a = let z : ◌≡◌ {A = ℕ} 0 1 = cc in omega arith
 
-read_as : (ws : List ℕ) (n e : ℕ) (bs : List ℕ) (p : ℕ) (q : Parsed) → line bs ≡ q → (read_as_of ws n e bs q).answer ≡ NotASort p
+read_as : (ws : List ℕ) (n e : ℕ) (bs : List ℕ) (p : ℕ) (q : Parsed) → line bs ≡ q → (read_as_of ws n e bs q).answer ≡ Err (NotASort p)
     → FirstThatCannotFollow bs (drop p bs)
 unfolding read_as_of
 read_as ws n e bs p (parsed t cs) f a =
@@ -912,12 +911,12 @@ read_as ws n e bs p (stuck cs) f a =
     subst (FirstThatCannotFollow bs) (sym (unread_end bs cs f) ∙ ap (λ k. drop k bs) z) (stops_at_the_first_token_that_cannot_follow bs cs f)
 
 by_checks : (x : Tested) (ws : List ℕ) (n e : ℕ) (bs : List ℕ) (p : ℕ)
-    → (refused_or x (λ c. read_left ws (Refused c)) (read_as_of ws n e bs (line bs))).answer ≡ NotASort p → FirstThatCannotFollow bs (drop p bs)
+    → (refused_or x (λ c. read_left ws (Err (Refused c))) (read_as_of ws n e bs (line bs))).answer ≡ Err (NotASort p) → FirstThatCannotFollow bs (drop p bs)
 by_checks (Ok u) ws n e bs p a = read_as ws n e bs p (line bs) refl a
 by_checks (Err c) ws n e bs p a = let z : ◌≡◌ {A = ℕ} 0 1 = cc in absurd (omega arith)
 
 -- With 20 the caller gets back the place where the first token stands that cannot follow.
-pub unread_end_cannot_follow : (ws : List ℕ) (n e : ℕ) (bs : List ℕ) (p : ℕ) → (reading ws n e bs).answer ≡ NotASort p
+pub unread_end_cannot_follow : (ws : List ℕ) (n e : ℕ) (bs : List ℕ) (p : ℕ) → (reading ws n e bs).answer ≡ Err (NotASort p)
     → FirstThatCannotFollow bs (drop p bs)
 unfolding reading
 unread_end_cannot_follow ws n e bs p a = by_checks (first_failing (read_checks ws n e bs)) ws n e bs p a

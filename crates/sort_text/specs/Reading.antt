@@ -1,6 +1,8 @@
 -- Reading a line into the sort storage: which sorts are stored, in which order, and what the entry answers and leaves.
-use Rattle.std.specs.Prelude.{Bool, List, [], ◌∷◌, ◌++◌, ℕ, ◌-◌, length, leb}
+use Rattle.std.specs.Prelude.{Bool, List, [], ◌∷◌, ◌++◌, ℕ, ◌-◌, length, leb, Result, Ok, Err}
 use Rattle.resolved_sort.specs.declared.Refusal.TheVariants.{TooShort, LongLine}
+use Rattle.resolved_sort.specs.declared.SortId.{SortId}
+use Rattle.resolved_sort.specs.declared.Counts.{Counts}
 use Rattle.resolved_sort.specs.declared.Joined.{Joined}
 use Rattle.resolved_sort.specs.declared.Joined.TheVariants.{At, Nothing, Full}
 use Rattle.resolved_sort.specs.Tree.{Tree, flat, container, function, Trees, no_args, arg}
@@ -8,8 +10,8 @@ use Rattle.resolved_sort.specs.Interning.{Sorts, Outcome, made, ◌then◌, inte
 use Rattle.resolved_sort.specs.Storage.{sorts_of, given_back}
 use Rattle.resolved_sort.specs.Checks.{Check, first_failing, sort_checks, at_ceiling, code_of}
 use Rattle.resolved_sort.specs.Entries.{refused_or, Stored, stored}
-use Rattle.sort_text.specs.declared.Read.{Read}
-use Rattle.sort_text.specs.declared.Read.TheVariants.{Refused, NotASort, Sort, NoRoom}
+use Rattle.sort_text.specs.declared.Unread.{Unread}
+use Rattle.sort_text.specs.declared.Unread.TheVariants.{Refused, NotASort, NoRoom}
 use Rattle.sort_text.specs.Parse.{Parsed, parsed, stuck, line}
 
 -- "A line's sorts are stored parts first, arguments left to right, then the range, then the whole."
@@ -35,31 +37,36 @@ read_checks ws n e bs =
     sort_checks ws n e
     ++ (record { refusal = TooShort; passes = at_ceiling ws } ∷ record { refusal = LongLine; passes = short_line bs } ∷ [])
 
+-- The sort of a line, stored, and the counts after it; or why the line is not read.
+abbrev pub ReadAnswer : Type 0
+ReadAnswer = Result (SortId × Counts) Unread
+
 -- document 01's number of each answer
-unfoldable pub code_read : Read → ℕ
-code_read (Refused c) = code_of c
-code_read (NotASort at) = 20
-code_read (Sort s k) = 0
-code_read NoRoom = 15
+unfoldable pub code_read : ReadAnswer → ℕ
+code_read (Ok sort) = 0
+code_read (Err (Refused c)) = code_of c
+code_read (Err (NotASort at)) = 20
+code_read (Err NoRoom) = 15
 
 pub record ReadLeft : Type 0 where
   pub words : List ℕ
-  pub answer : Read
+  pub answer : ReadAnswer
 
-abbrev pub read_left : List ℕ → Read → ReadLeft
+abbrev pub read_left : List ℕ → ReadAnswer → ReadLeft
 read_left ws r = record { words = ws; answer = r }
 
 unfoldable pub stored_by : List ℕ → ℕ → ℕ → Stored → Joined → ReadLeft
-stored_by ws n e r (At s k) = read_left r.words (Sort s k)
-stored_by ws n e r (Nothing k) = read_left (given_back n e ws) NoRoom
-stored_by ws n e r Full = read_left (given_back n e ws) NoRoom
+stored_by ws n e r (At s k) = read_left r.words (Ok (s, k))
+stored_by ws n e r (Nothing k) = read_left (given_back n e ws) (Err NoRoom)
+stored_by ws n e r Full = read_left (given_back n e ws) (Err NoRoom)
 
 -- A line that is no sort stores nothing, also where there is no room.
 unfoldable pub read_as_of : List ℕ → ℕ → ℕ → List ℕ → Parsed → ReadLeft
 read_as_of ws n e bs (parsed t cs) =
     let r : Stored = stored ws n e (store t (sorts_of ws n e)) in stored_by ws n e r r.answer
-read_as_of ws n e bs (stuck cs) = read_left ws (NotASort (length bs - length cs))
+read_as_of ws n e bs (stuck cs) = read_left ws (Err (NotASort (length bs - length cs)))
 
 unfoldable pub reading : List ℕ → ℕ → ℕ → List ℕ → ReadLeft
 reading ws n e bs =
-    refused_or (first_failing (read_checks ws n e bs)) (λ c. read_left ws (Refused c)) (read_as_of ws n e bs (line bs))
+    refused_or (first_failing (read_checks ws n e bs)) (λ c. read_left ws (Err (Refused c)))
+    (read_as_of ws n e bs (line bs))

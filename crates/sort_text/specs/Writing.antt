@@ -1,10 +1,9 @@
 -- Writing a sort as text: what the entry answers, and what it leaves in the lent text buffer.
-use Rattle.std.specs.Prelude.{◌&&◌, List, [], ◌∷◌, ◌++◌, ℕ, length, drop, leb}
+use Rattle.std.specs.Prelude.{◌&&◌, List, [], ◌∷◌, ◌++◌, ℕ, length, drop, leb, Result, Ok, Err}
+use Rattle.resolved_sort.specs.declared.Refusal.{Refusal}
 use Rattle.resolved_sort.specs.declared.Refusal.TheVariants.{NotInList, NoText, TooShort}
-use Rattle.resolved_sort.specs.Checks.{Check, first_failing, sort_checks, in_list, at_ceiling, code_of}
+use Rattle.resolved_sort.specs.Checks.{Check, first_failing, sort_checks, in_list, at_ceiling}
 use Rattle.resolved_sort.specs.Entries.{refused_or, tree_at}
-use Rattle.sort_text.specs.declared.Written.{Written}
-use Rattle.sort_text.specs.declared.Written.TheVariants.{Refused, Text}
 use Rattle.sort_text.specs.Text.{writable, text}
 
 -- 14: the sort storage below its ceiling, or the text longer than the buffer. A text may be longer than any buffer.
@@ -16,20 +15,17 @@ write_checks ws n e a out =
     ∷ record { refusal = TooShort; passes = at_ceiling ws && leb (length (text (tree_at ws n a))) (length out) }
     ∷ [])
 
-unfoldable pub code_written : Written → ℕ
-code_written (Refused c) = code_of c
-code_written (Text n) = 0
-
+-- the number of bytes of the text
 pub record WriteLeft : Type 0 where
   pub bytes : List ℕ
-  pub answer : Written
+  pub answer : Result ℕ Refusal
 
-abbrev pub write_left : List ℕ → Written → WriteLeft
+abbrev pub write_left : List ℕ → Result ℕ Refusal → WriteLeft
 write_left out r = record { bytes = out; answer = r }
 
 -- On a refusal no byte is written, and none past the text in any case.
 unfoldable pub writing : List ℕ → ℕ → ℕ → ℕ → List ℕ → WriteLeft
 writing ws n e a out =
-    refused_or (first_failing (write_checks ws n e a out)) (λ c. write_left out (Refused c))
+    refused_or (first_failing (write_checks ws n e a out)) (λ c. write_left out (Err c))
     (write_left (text (tree_at ws n a) ++ drop (length (text (tree_at ws n a))) out)
-    (Text (length (text (tree_at ws n a)))))
+    (Ok (length (text (tree_at ws n a)))))

@@ -1,11 +1,12 @@
-// Sort text in mCRL2 spelling: what reading a line and writing a sort answer. A refusal is the first failing
-// check of document 01.
+// Sort text in mCRL2 spelling: its words, and why a line is not read. A refusal is the first failing check of document
+// 01.
 #![tactic(auto)]
 
 ghost use Rattle.std.specs.Prelude.{◌≡◌};
 ghost use Rattle.sort_text.specs.Parse.{sort_word, op_word};
+ghost use Rattle.sort_text.specs.declared.Unread.TheVariants.{Refused, NoRoom};
 
-use resolved_sort::{ComplexSort, Counts, Refusal, Sort, SortId};
+use resolved_sort::{ComplexSort, NoRoom, Refusal, Sort};
 
 // The word of a basic sort.
 #[tactic(auto, unfolding(crate::specs::Parse::sort_word))]
@@ -35,21 +36,29 @@ pub fn op_word(op: ComplexSort) -> &'static [u8]
     }
 }
 
-// What reading a line answers: the sort of the line, stored, with the counts after it; that the line is no sort, with
-// the position of its unread end (20); or that a new sort had no room (15).
+// Why a line is not read: a check failed; the line is no sort, with the position of its unread end (20); or a new sort
+// had no room (15).
 #[derive(Clone, Copy, Debug, PartialEq, Eq)]
-pub enum Read {
+pub enum Unread {
     Refused(Refusal),
     NotASort(usize),
-    Sort(SortId, Counts),
     NoRoom,
 }
 
-// What writing a sort answers: the number of bytes of its text.
-#[derive(Clone, Copy, Debug, PartialEq, Eq)]
-pub enum Written {
-    Refused(Refusal),
-    Text(usize),
+impl From<Refusal> for Unread {
+    ghost from_gives = { λ refusal e. e ≡ Refused refusal };
+
+    fn from(refusal: Refusal) -> Self {
+        Unread::Refused(refusal)
+    }
+}
+
+impl From<NoRoom> for Unread {
+    ghost from_gives = { λ _ e. e ≡ NoRoom };
+
+    fn from(_no_room: NoRoom) -> Self {
+        Unread::NoRoom
+    }
 }
 
 // A line of text has at most so many bytes, its LF not counted.

@@ -1,7 +1,7 @@
 -- The first byte that is no space says which token it is. Assumes nothing.
 use Rattle.std.proofs.Common.{rules, ltb-false, sym}
 use Rattle.sort_lexer.proofs.Tokens as law
-use Rattle.sort_lexer.proofs.token_at.Goals as goal
+use Rattle.sort_lexer.proofs.token_from.Goals as goal
 
 pub returns-in_default : goal.returns-in_default
 returns-in_default c = law.no_token_left _ _ _ c.skip_spaces-from.ensures (ltb-false _ _ (sym c.in_default.ensures.lookup.0))
