@@ -41,7 +41,7 @@ inputs_are_answered : map output (
     ∷ (124 ∷ 44 ∷ 32 ∷ 110 ∷ 111 ∷ 110 ∷ 101 ∷ 44 ∷ 32 ∷ 110 ∷ 111 ∷ 110 ∷ 101 ∷ 44 ∷ 32 ∷ 110 ∷ 111 ∷ 110 ∷ 101 ∷ 44 ∷ 32 ∷ 110 ∷ 111 ∷ 10 ∷ [])
     ∷ []
 unfolding output PairProgram.pairs PairProgram.pair PairProgram.line_of PairProgram.answer PairProgram.small_decimal
-    Lines.lines Reading.short_line Text.text Text.texts Text.more Order.order Order.le Order.les Order.bound
+    Lines.lines Reading.short_line Text.text Text.texts Text.more Order.ordering Order.le Order.les Order.bound
     Order.bounds Order.bound_flat Order.bound_op Order.distance Order.distances Order.materializable Tree.same
     Tree.sames Tree.family Tree.level Tree.family_op Tree.level_op line Parse.ending Parse.sort Parse.sort_to Parse.rest
     Parse.rest_at Parse.alone Parse.snoc Parse.operand Parse.operand_at Parse.operand_of Parse.bracketed Parse.in_brackets Parse.closing

@@ -1,38 +1,46 @@
--- What the small functions put, and what comes of a pair by what its lines read as. Assumes nothing.
-use mathlib.Core.Path.{◌≡◌, refl, sym, ◌∙◌, ap, subst}
-use mathlib.Core.List.{List, [], ◌∷◌, ◌++◌, append_assoc}
+-- What the small functions put, what comes of a line by its length and by what it reads as, and room for every line of
+-- output. Assumes nothing.
+use mathlib.Core.Path.{◌≡◌, refl, sym, ◌∙◌, ap, ap₂, subst}
+use mathlib.Core.Bool.{Bool, true, false, cond}
+use mathlib.Core.List.{List, [], ◌∷◌, ◌++◌}
 use Prim.Native.Nat.{ℕ, ◌+◌, ◌/◌, ◌%◌, ◌<◌, ◌≤◌}
 use native.Mathlib.Omega.{arith}
 use native.Mathlib.Decide.{dec_le}
-use lib.ListN.{length, drop, length-append, length-drop}
-use borrow.Author.Tests.{lt-ltb, le-ltb, le-leb, lt-leb}
-use Rattle.resolved_sort.specs.declared.SortId.{SortId}
-use Rattle.resolved_sort.specs.declared.Counts.{Counts}
-use Rattle.resolved_sort.specs.declared.Widening.{Widening}
-use Rattle.resolved_sort.specs.declared.Widening.TheVariants.{Distance, Nothing}
+use lib.ListN.{length, drop, length-append}
+use borrow.Author.Tests.{lt-ltb, le-ltb, le-leb, lt-leb, leb-true}
+use Rattle.std.specs.Prelude.{Result, Ok, Err, IsErrAnd}
+use Rattle.resolved_sort.specs.declared.Refusal.{Refusal}
+use Rattle.resolved_sort.specs.declared.Refusal.TheVariants.{TooShort, LongLine}
 use Rattle.resolved_sort.specs.Tree.{Tree}
+use Rattle.resolved_sort.specs.Checks.{Tested, first_failing, code_of}
 use Rattle.resolved_sort.specs.Entries.{tree_at}
-use Rattle.sort_text.specs.declared.Read.{Read}
-use Rattle.sort_text.specs.declared.Read.TheVariants.{NotASort, Sort}
-use Rattle.resolved_sort.specs.declared.Refusal.TheVariants.{TooShort}
-use Rattle.sort_text.specs.declared.Written.TheVariants.{Refused, Text}
+use Rattle.resolved_sort.proofs.Reached.{no_confusion}
+use Rattle.sort_text.specs.declared.Unread.{Unread}
+use Rattle.sort_text.specs.declared.Unread.TheVariants.{Refused, NotASort}
 use Rattle.sort_text.specs.Parse.{Parsed, parsed, stuck, line}
-use Rattle.sort_text.specs.Reading.{read_left, read_as_of}
+use Rattle.sort_text.specs.Reading.{short_line}
 use Rattle.sort_text.specs.Writing.{write_left}
-use Rattle.pair_line.specs.PairProgram.{none_text, small_decimal, comma, answer, Line, good, wrong, line_of, with_first, with_second, single, pair}
-use Rattle.pair_line.proofs.PairLength.{pair_length, single_length}
 use Rattle.sort_recogniser.specs.Inner.Says.{Recognised, done_at, stuck_at, Says}
-use Rattle.text_out.specs.Put.{Put}
-use Rattle.text_out.proofs.Put.{put_then, put_as, put_length}
 use Rattle.sort_writer.proofs.Front.{put_front}
-use Rattle.pair_line.specs.Room.{line_room, OfLine, Begun}
-use Rattle.pair_line.specs.Inner.Room.{FirstRead, BothRead}
+use Rattle.text_out.specs.declared.Out.{Out}
 use Rattle.text_out.specs.Decimal.{digit, decimal}
+use Rattle.text_out.specs.Outs.{then_put}
+use Rattle.text_out.specs.Put.{Put}
 use Rattle.text_out.proofs.Outs.{a_digit}
-use Rattle.pair_line.specs.Inner.Answers.{steps_text}
-use Rattle.pair_line.specs.Answers.{with_lf, output_left}
-use Rattle.pair_line.proofs.Lines.{line_long, line_good, line_wrong}
-use Rattle.pair_line.proofs.LineRead.{ReadSort, read_sort, no_sort}
+use Rattle.pair_line.specs.declared.Gathered.{Gathered}
+use Rattle.pair_line.specs.declared.Gathered.TheVariants.{Pair, Alone}
+use Rattle.pair_line.specs.PairProgram.{small_decimal, answer, Line, good, wrong, read, line_of, with_first, with_second, single, pair}
+use Rattle.pair_line.specs.Room.{line_room, OfLine, Begun}
+use Rattle.pair_line.specs.Inner.Room.{LineStored, BadPut, BothRead}
+use Rattle.pair_line.specs.Inner.Answers.{wrong_text, length_check, LineTested}
+use Rattle.pair_line.specs.Answers.{with_lf, printed, output_left}
+use Rattle.pair_line.proofs.PairLength.{pair_length, single_length}
+use Rattle.pair_line.proofs.Lines.{line_good, line_wrong}
+
+-- what a `?` hands on
+pub handed : {A E : Type 0} (x : Result A E) (e : E) → IsErrAnd x (λ f. f ≡ e) → x ≡ Err e
+handed (Ok a) e h = absurd h
+handed (Err f) e h = ap Err h
 
 -- a number of one byte, by its digits
 no_digit : (unit n : ℕ) → n < unit → digit unit n ≡ []
@@ -55,161 +63,110 @@ module _ (n : ℕ) (byte : n < 256) where
       go (yes a) (yes b) = from_hundreds ∙ rw (a_digit n 100 b, a_digit n 10 a, le-ltb n 10 a, le-ltb n 100 b)
           (ap (λ (k : ℕ). (48 + k) ∷ (48 + n / 10 % 10) ∷ (48 + n % 10) ∷ []) (omega arith))
 
--- a line that is no sort
-module _ (bs : List ℕ) (p : ℕ) (out : List ℕ) (at : ℕ) (l : length bs ≤ 200) (room : at + 816 ≤ length out)
-    (out₁ : List ℕ) (at₁ : ℕ) (h₁ : Put out at (50 ∷ 48 ∷ 58 ∷ []) out₁ at₁) where
-  module _ (us : List ℕ) (e : us ≡ drop p bs) where
-    pub unread_room : at₁ + length us ≤ length out₁
-    unread_room = omega (arith, ap length e, length-drop p bs, l, room, h₁.behind, put_length h₁)
+-- the length of a line
+module _ (bs : List ℕ) where
+  pub length_fails : 200 < length bs → Err LongLine ≡ first_failing (length_check bs ∷ [])
+  unfolding first_failing short_line
+  length_fails h = rw (lt-leb (length bs) 200 h)
 
-    module _ (out₂ : List ℕ) (at₂ : ℕ) (h₂ : Put out₁ at₁ us out₂ at₂) where
-      pub lf_room : at₂ + 1 ≤ length out₂
-      lf_room = omega (arith, ap length e, length-drop p bs, l, room, h₁.behind, put_length h₁, h₂.behind, put_length h₂)
+  pub length_passes : length bs ≤ 200 → Ok tt ≡ first_failing (length_check bs ∷ [])
+  unfolding first_failing short_line
+  length_passes h = rw (le-leb (length bs) 200 h)
 
-      pub unread_put : (out₃ : List ℕ) (r : ℕ) → Put out₂ at₂ (10 ∷ []) out₃ r → Put out at (with_lf (50 ∷ 48 ∷ 58 ∷ drop p bs)) out₃ r
-      unread_put out₃ r h₃ = put_then h₁ (put_then (put_as e h₂) h₃)
+  long_by : (b : Bool) (c : Refusal) → ◌≡◌ {A = Tested} (cond b (Ok tt) (Err LongLine)) (Err c)
+      → cond b (read (line bs)) (wrong (49 ∷ 57 ∷ [])) ≡ wrong (wrong_text bs (Refused c))
+  unfolding decimal digit code_of
+  long_by true c f = no_confusion (cc)
+  long_by false c f = let e : LongLine ≡ c = cc in subst (λ d. wrong (49 ∷ 57 ∷ []) ≡ wrong (wrong_text bs (Refused d))) e refl
 
--- the second line, the first being read
-module _ (ws : List ℕ) (n e a : ℕ) (second out : List ℕ) (at : ℕ) (q : FirstRead ws n e a out at) where
-  second_as : (m : Line) (bs : List ℕ) → with_second (tree_at ws n a) m ≡ bs → line_of second ≡ m
-      → (out₁ : List ℕ) (r : ℕ) → Put out at (with_lf bs) out₁ r
-      → Put out at (with_lf (with_second (tree_at ws n a) (line_of second))) out₁ r
-  second_as m bs f i out₁ r h = put_as (ap with_lf (sym (ap (with_second (tree_at ws n a)) i ∙ f))) h
+  -- a line that is too long
+  pub too_long : (c : Refusal) → first_failing (length_check bs ∷ []) ≡ Err c → line_of bs ≡ wrong (wrong_text bs (Refused c))
+  unfolding first_failing line_of
+  too_long c f = long_by (short_line bs) c f
 
-  pub second_long : 200 < length second → (out₁ : List ℕ) (r : ℕ) → Put out at (with_lf (49 ∷ 57 ∷ [])) out₁ r
-      → Put out at (with_lf (with_second (tree_at ws n a) (line_of second))) out₁ r
-  second_long l = second_as (wrong (49 ∷ 57 ∷ [])) _ refl (line_long second l)
+  short_by : (b : Bool) → ◌≡◌ {A = Tested} (cond b (Ok tt) (Err LongLine)) (Ok tt) → b ≡ true
+  short_by true f = refl
+  short_by false f = no_confusion (cc)
 
-  module _ (l : length second ≤ 200) (vs : List ℕ) (x : Read) (f : read_left vs x ≡ read_as_of ws n e second (line second)) where
-    module _ (u : SortId) (K : Counts) (i : x ≡ Sort u K) where
-      it : ReadSort ws n e 200 second q.begun (omega arith) l vs u K
-      it = read_sort ws n e 200 second q.begun (omega arith) l vs x f u K i
+  pub not_long : first_failing (length_check bs ∷ []) ≡ Ok tt → length bs ≤ 200
+  unfolding first_failing short_line
+  not_long f = leb-true (length bs) 200 (short_by (short_line bs) f)
 
-      same : tree_at vs K.sorts a ≡ tree_at ws n a
-      same = it.grown.same a q.below
+-- a pair whose first line is bad, or its second; or both are read
+module _ (ws : List ℕ) (first second : List ℕ) (b : Begun ws 6 0 0) (o : Out) where
+  pub begun_first : Begun ws 6 0 200
+  begun_first = record { checked = b.checked; six = b.six; sorts = omega arith; entries = omega arith }
 
-      pub both_read : BothRead vs K.sorts K.entries a u.0 out at
+  pub first_bad : {p : Out} → BadPut first o p → p ≡ then_put o (pair first second)
+  unfolding pair
+  first_bad h = h.put ∙ sym (ap (λ l. then_put o (with_first l (line_of second))) h.is_wrong)
+
+  module _ {vs : List ℕ} {m d a : ℕ} (f : LineStored ws 6 0 first vs m d a) {p : Out} (i : p ≡ o) where
+    pub begun_second : Begun vs m d 200
+    begun_second =
+        record { checked = f.grown.checked; six = f.six; sorts = omega (arith, f.grown.sorts); entries = omega (arith, f.grown.entries) }
+
+    pub second_bad : {q : Out} → BadPut second p q → q ≡ then_put o (pair first second)
+    unfolding pair
+    second_bad h =
+        h.put ∙ (ap (λ x. then_put x h.bytes) i
+        ∙ sym (ap (λ l. then_put o (with_first l (line_of second))) f.is_good
+        ∙ ap (λ l. then_put o (with_second (tree_at vs m a) l)) h.is_wrong))
+
+    module _ {us : List ℕ} {l c x : ℕ} (g : LineStored vs m d second us l c x) {q : Out} (j : q ≡ p) where
+      same : tree_at us l a ≡ tree_at vs m a
+      same = g.grown.same a f.below
+
+      pub both_read : BothRead us l c a x
       both_read =
           record {
-            asked = record { checked = it.grown.checked; lhs = omega (arith, q.below, it.grown.longer); rhs = it.below };
-            of_line = subst OfLine (sym same) q.of_line;
-            sorts = omega (arith, it.begun.sorts);
-            entries = omega (arith, it.begun.entries);
-            room = q.room;
+            asked = record { checked = g.grown.checked; lhs = omega (arith, f.below, g.grown.longer); rhs = g.below };
+            of_line = subst OfLine (sym same) f.of_line;
+            sorts = omega (arith, f.grown.sorts, g.grown.sorts);
+            entries = omega (arith, f.grown.entries, g.grown.entries);
           }
 
-      pub second_put : (out₁ : List ℕ) (r : ℕ) → Put out at (with_lf (answer (tree_at vs K.sorts a) (tree_at vs K.sorts u.0))) out₁ r
-          → Put out at (with_lf (with_second (tree_at ws n a) (line_of second))) out₁ r
-      second_put = second_as (good (tree_at vs K.sorts u.0)) _ (ap (λ s. answer s (tree_at vs K.sorts u.0)) (sym same)) it.is_good
+      pub both_put : {r : Out} → r ≡ then_put q (answer (tree_at us l a) (tree_at us l x)) → r ≡ then_put o (pair first second)
+      unfolding pair
+      both_put h =
+          h ∙ (ap₂ (λ y s. then_put y (answer s (tree_at us l x))) (j ∙ i) same
+          ∙ sym (ap (λ l. then_put o (with_first l (line_of second))) f.is_good
+          ∙ ap (λ l. then_put o (with_second (tree_at vs m a) l)) g.is_good))
 
-    pub second_unread : (p : ℕ) → x ≡ NotASort p → (out₁ : List ℕ) (r : ℕ) → Put out at (with_lf (50 ∷ 48 ∷ 58 ∷ drop p second)) out₁ r
-        → Put out at (with_lf (with_second (tree_at ws n a) (line_of second))) out₁ r
-    second_unread p i = second_as (wrong (50 ∷ 48 ∷ 58 ∷ drop p second)) _ refl (no_sort ws n e 200 second q.begun (omega arith) l vs x f p i)
+-- a line that is recognised, or is no sort
+module _ (bs : List ℕ) (l : length bs ≤ 200) (steps : List ℕ) (x : Recognised) (f : Says bs 0 (length bs) [] (line bs) steps x) where
+  good_by : (P : Parsed) → line bs ≡ P → (p m : ℕ) → Says bs 0 (length bs) [] P steps (done_at p m) → (t : Tree) × (line_of bs ≡ good t)
+  unfolding Says
+  good_by (parsed t cs) i p m w = (t, line_good bs cs t l i)
+  good_by (stuck cs) i p m w = absurd w
 
--- the first line
-module _ (ws first second out : List ℕ) (at : ℕ) (b : Begun ws 6 0 0) (room : at + 816 ≤ length out) where
-  first_as : (m : Line) (bs : List ℕ) → with_first m (line_of second) ≡ bs → line_of first ≡ m → (out₁ : List ℕ) (r : ℕ)
-      → Put out at (with_lf bs) out₁ r → Put out at (with_lf (pair first second)) out₁ r
-  unfolding pair
-  first_as m bs f i out₁ r h = put_as (ap with_lf (sym (ap (λ x. with_first x (line_of second)) i ∙ f))) h
+  wrong_by : (P : Parsed) → line bs ≡ P → (p : ℕ) → Says bs 0 (length bs) [] P steps (stuck_at p) → line_of bs ≡ wrong (50 ∷ 48 ∷ 58 ∷ drop p bs)
+  unfolding Says
+  wrong_by (parsed t cs) i p w = absurd w
+  wrong_by (stuck cs) i p w = line_wrong bs cs l i ∙ ap (λ y. wrong (50 ∷ 48 ∷ 58 ∷ y)) (sym w.1)
 
-  pub first_long : 200 < length first → (out₁ : List ℕ) (r : ℕ) → Put out at (with_lf (49 ∷ 57 ∷ [])) out₁ r → Put out at (with_lf (pair first second)) out₁ r
-  first_long l = first_as (wrong (49 ∷ 57 ∷ [])) _ refl (line_long first l)
+  pub line_is_good : (p m : ℕ) → x ≡ done_at p m → (t : Tree) × (line_of bs ≡ good t)
+  line_is_good p m i = good_by (line bs) refl p m (subst (Says bs 0 (length bs) [] (line bs) steps) i f)
 
-  module _ (l : length first ≤ 200) (vs : List ℕ) (x : Read) (f : read_left vs x ≡ read_as_of ws 6 0 first (line first)) where
-    module _ (u : SortId) (K : Counts) (i : x ≡ Sort u K) where
-      first_it : ReadSort ws 6 0 0 first b (omega arith) l vs u K
-      first_it = read_sort ws 6 0 0 first b (omega arith) l vs x f u K i
+  pub line_is_stuck : (p : ℕ) → x ≡ stuck_at p → line_of bs ≡ wrong (wrong_text bs (NotASort p))
+  line_is_stuck p i = wrong_by (line bs) refl p (subst (Says bs 0 (length bs) [] (line bs) steps) i f)
 
-      pub first_read : FirstRead vs K.sorts K.entries u.0 out at
-      first_read = record { begun = first_it.begun; below = first_it.below; of_line = first_it.of_line; room = room }
+-- what a line alone prints
+pub tested_good : (bs : List ℕ) (l : Line) {r : Result (Unit {0}) Unread} {u : Unit {0}} → LineTested bs l r → r ≡ Ok u → 50 ∷ 49 ∷ [] ≡ single l
+tested_good bs l {r} {u} h e = let x = subst (LineTested bs l) e h in sym (ap single x.1)
 
-      pub first_put : (out₁ : List ℕ) (r : ℕ)
-          → Put out at (with_lf (with_second (tree_at vs K.sorts u.0) (line_of second))) out₁ r
-          → Put out at (with_lf (pair first second)) out₁ r
-      first_put = first_as (good (tree_at vs K.sorts u.0)) _ refl first_it.is_good
-
-    pub first_unread : (p : ℕ) → x ≡ NotASort p → (out₁ : List ℕ) (r : ℕ)
-        → Put out at (with_lf (50 ∷ 48 ∷ 58 ∷ drop p first)) out₁ r → Put out at (with_lf (pair first second)) out₁ r
-    first_unread p i = first_as (wrong (50 ∷ 48 ∷ 58 ∷ drop p first)) _ refl (no_sort ws 6 0 0 first b (omega arith) l vs x f p i)
-
--- a line alone
-module _ (bs out : List ℕ) (at : ℕ) where
-  single_as : (m : Line) → line_of bs ≡ m → (out₁ : List ℕ) (r : ℕ) → Put out at (with_lf (single m)) out₁ r → Put out at (with_lf (single (line_of bs))) out₁ r
-  single_as m i out₁ r h = put_as (ap (λ x. with_lf (single x)) (sym i)) h
-
-  pub single_long : 200 < length bs → (out₁ : List ℕ) (r : ℕ) → Put out at (with_lf (49 ∷ 57 ∷ [])) out₁ r → Put out at (with_lf (single (line_of bs))) out₁ r
-  single_long l = single_as (wrong (49 ∷ 57 ∷ [])) (line_long bs l)
-
-  module _ (l : length bs ≤ 200) (steps : List ℕ) (x : Recognised) (f : Says bs 0 (length bs) [] (line bs) steps x) where
-    good_by : (P : Parsed) → line bs ≡ P → (p m : ℕ) → Says bs 0 (length bs) [] P steps (done_at p m) → (t : Tree) × (line_of bs ≡ good t)
-    unfolding Says
-    good_by (parsed t cs) i p m w = (t, line_good bs cs t l i)
-    good_by (stuck cs) i p m w = absurd w
-
-    wrong_by : (P : Parsed) → line bs ≡ P → (p : ℕ) → Says bs 0 (length bs) [] P steps (stuck_at p) → line_of bs ≡ wrong (50 ∷ 48 ∷ 58 ∷ drop p bs)
-    unfolding Says
-    wrong_by (parsed t cs) i p w = absurd w
-    wrong_by (stuck cs) i p w = line_wrong bs cs l i ∙ ap (λ y. wrong (50 ∷ 48 ∷ 58 ∷ y)) (sym w.1)
-
-    pub single_good : (p m : ℕ) → x ≡ done_at p m → (out₁ : List ℕ) (r : ℕ) → Put out at (with_lf (50 ∷ 49 ∷ [])) out₁ r
-        → Put out at (with_lf (single (line_of bs))) out₁ r
-    single_good p m i = let y = good_by (line bs) refl p m (subst (Says bs 0 (length bs) [] (line bs) steps) i f) in single_as (good y.0) y.1
-
-    pub single_unread : (p : ℕ) → x ≡ stuck_at p → (out₁ : List ℕ) (r : ℕ)
-        → Put out at (with_lf (50 ∷ 48 ∷ 58 ∷ drop p bs)) out₁ r → Put out at (with_lf (single (line_of bs))) out₁ r
-    single_unread p i = single_as (wrong (50 ∷ 48 ∷ 58 ∷ drop p bs)) (wrong_by (line bs) refl p (subst (Says bs 0 (length bs) [] (line bs) steps) i f))
+pub tested_wrong : (bs : List ℕ) (l : Line) {r : Result (Unit {0}) Unread} {why : Unread} → LineTested bs l r → r ≡ Err why → wrong_text bs why ≡ single l
+tested_wrong bs l {r} {why} h e = let x = subst (LineTested bs l) e h in sym (ap single x)
 
 -- the entries
-pub buffer_short : (bs out : List ℕ) → length out < line_room → write_left out (Refused TooShort) ≡ output_left bs out
+pub buffer_short : (bs out : List ℕ) → length out < line_room → write_left out (Err TooShort) ≡ output_left bs out
 unfolding output_left
 buffer_short bs out h = rw (lt-leb line_room (length out) h)
 
-pub line_left : (bs out : List ℕ) → line_room ≤ length out → length bs ≤ line_room → (left : List ℕ) (r : ℕ)
-    → Put out 0 bs left r → write_left left (Text r) ≡ output_left bs out
+pub line_left : (bs out : List ℕ) → line_room ≤ length out → length bs ≤ line_room → {left : List ℕ} {r : ℕ}
+    → Put out 0 bs left r → write_left left (Ok r) ≡ output_left bs out
 unfolding output_left
-line_left bs out h l left r p = rw (le-leb line_room (length out) h) (put_front (omega arith) p)
-
--- the steps of a distance
-module _ (steps : Widening) (out : List ℕ) (at : ℕ) (room : at + length (steps_text steps ++ comma []) ≤ length out) where
-  module _ (e : steps ≡ Nothing) where
-    pub no_steps_room : at + 6 ≤ length out
-    no_steps_room = omega (arith, room, ap (λ s. length (steps_text s ++ comma [])) e)
-
-    pub no_steps_put : (out₁ : List ℕ) (r : ℕ) → Put out at (none_text ++ comma []) out₁ r → Put out at (steps_text steps ++ comma []) out₁ r
-    no_steps_put out₁ r h = put_as (ap (λ s. steps_text s ++ comma []) (sym e)) h
-
-  module _ (head interior : ℕ) (e : steps ≡ Distance head interior) where
-    is_steps : small_decimal head ++ ((32 ∷ []) ++ (small_decimal interior ++ comma [])) ≡ steps_text steps ++ comma []
-    is_steps = sym (ap (λ s. steps_text s ++ comma []) e ∙ append_assoc (small_decimal head) (32 ∷ small_decimal interior) (comma []))
-
-    lengths : at + (length (small_decimal head) + (1 + (length (small_decimal interior) + 2))) ≤ length out
-    lengths = omega (
-      arith,
-      room,
-      ap length is_steps,
-      length-append (small_decimal head)
-          ((32 ∷ []) ++ (small_decimal interior ++ comma [])),
-      length-append (small_decimal interior) (comma []),
-    )
-
-    pub head_room : at + length (small_decimal head) ≤ length out
-    head_room = omega (arith, lengths)
-
-    module _ (out₁ : List ℕ) (at₁ : ℕ) (h₁ : Put out at (small_decimal head) out₁ at₁) where
-      pub space_room : at₁ + 1 ≤ length out₁
-      space_room = omega (arith, lengths, h₁.behind, put_length h₁)
-
-      module _ (out₂ : List ℕ) (at₂ : ℕ) (h₂ : Put out₁ at₁ (32 ∷ []) out₂ at₂) where
-        pub interior_room : at₂ + length (small_decimal interior) ≤ length out₂
-        interior_room = omega (arith, lengths, h₁.behind, put_length h₁, h₂.behind, put_length h₂)
-
-        module _ (out₃ : List ℕ) (at₃ : ℕ) (h₃ : Put out₂ at₂ (small_decimal interior) out₃ at₃) where
-          pub behind_room : at₃ + 2 ≤ length out₃
-          behind_room = omega (arith, lengths, h₁.behind, put_length h₁, h₂.behind, put_length h₂, h₃.behind, put_length h₃)
-
-          pub steps_put : (out₄ : List ℕ) (r : ℕ) → Put out₃ at₃ (comma []) out₄ r → Put out at (steps_text steps ++ comma []) out₄ r
-          steps_put out₄ r h₄ = put_as is_steps (put_then h₁ (put_then h₂ (put_then h₃ h₄)))
+line_left bs out h l p = rw (le-leb line_room (length out) h) (put_front (omega arith) p)
 
 -- Every line of output has room.
 pub pair_has_room : (first second : List ℕ) → length (with_lf (pair first second)) ≤ line_room
@@ -217,3 +174,7 @@ pair_has_room first second = omega (arith, pair_length first second, length-appe
 
 pub single_has_room : (bs : List ℕ) → length (with_lf (single (line_of bs))) ≤ line_room
 single_has_room bs = omega (arith, single_length bs, length-append (single (line_of bs)) (10 ∷ []))
+
+pub printed_has_room : (g : Gathered) → length (printed g) ≤ line_room
+printed_has_room (Pair first second) = pair_has_room first.now second.now
+printed_has_room (Alone line) = single_has_room line.now

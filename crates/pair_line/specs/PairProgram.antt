@@ -1,11 +1,12 @@
 -- "A pair program reads standard input, two LF-ended lines to a pair (a last nonempty line needs no LF), and prints one
 -- line": what it prints, byte by byte, for every input.
 use Rattle.std.specs.Prelude.{Bool, true, false, cond, List, [], ◌∷◌, ◌++◌, ℕ, ◌+◌, ◌/◌, ◌%◌, ltb}
+use Rattle.std.specs.Prelude as Rust
 use Rattle.std.proofs.Math.Option.{Option, none, some}
-use Rattle.resolved_sort.specs.declared.PartialOrder.{PartialOrder}
-use Rattle.resolved_sort.specs.declared.PartialOrder.TheVariants.{Unrelated, Equal, Below, Above}
+use Rattle.std.specs.declared.cmp.Ordering.{Ordering}
+use Rattle.std.specs.declared.cmp.Ordering.TheVariants.{Less, Equal, Greater}
 use Rattle.resolved_sort.specs.Tree.{Tree}
-use Rattle.resolved_sort.specs.Order.{order, join, meet, Steps, distance, materializable}
+use Rattle.resolved_sort.specs.Order.{ordering, join, meet, Steps, distance, materializable}
 use Rattle.text_out.specs.Quoted.{byte_of, bytes_of}
 use Rattle.held_line.specs.Lines.{lines}
 use Rattle.sort_text.specs.Parse.{Parsed, parsed, stuck, line}
@@ -23,11 +24,11 @@ small_decimal n =
     (digit_byte (n / 100) ∷ digit_byte (n / 10 % 10) ∷ digit_byte (n % 10) ∷ []))
 
 -- "order (`=`, `<`, `>`, `|`)"
-abbrev pub sign : PartialOrder → ℕ
-sign Equal = byte_of "="
-sign Below = byte_of "<"
-sign Above = byte_of ">"
-sign Unrelated = byte_of "|"
+abbrev pub sign : Rust.Option Ordering → ℕ
+sign (Rust.Some Equal) = byte_of "="
+sign (Rust.Some Less) = byte_of "<"
+sign (Rust.Some Greater) = byte_of ">"
+sign Rust.None = byte_of "|"
 
 abbrev pub none_text : List ℕ
 none_text = bytes_of "none"
@@ -51,7 +52,7 @@ comma bs = bytes_of ", " ++ bs
 -- order, join, meet, distance, and materializable from first to second
 unfoldable pub answer : Tree → Tree → List ℕ
 answer s t =
-    sign (order s t)
+    sign (ordering s t)
     ∷ comma (sort_or_none (join s t)
     ++ comma (sort_or_none (meet s t)
     ++ comma (steps_or_none (distance true s t)

@@ -1,15 +1,13 @@
--- What the functions that put a line of output ask for: a storage with room for what a pair can make, and a buffer with
--- room for a line of output.
-use Rattle.std.specs.Prelude.{◌≡◌, Bool, true, List, [], ◌++◌, ℕ, ◌+◌, ◌*◌, ◌≤◌, length}
+-- Room for every line of output; and what the functions that answer a pair ask for: a storage with room for what a pair
+-- can make.
+use Rattle.std.specs.Prelude.{◌≡◌, true, List, ℕ, ◌+◌, ◌*◌, ◌≤◌, length}
 use Rattle.resolved_sort.specs.Tree.{Tree}
-use Rattle.resolved_sort.specs.Order.{bound}
 use Rattle.resolved_sort.specs.Checks.{fixed_six}
 use Rattle.resolved_sort.specs.Entries.{tree_at}
 use Rattle.resolved_sort.specs.Rows.{Checked}
 use Rattle.resolved_sort.specs.Bounds.{Asked}
 use Rattle.sort_text.specs.Parse.{parsed, line}
 use Rattle.sort_text.specs.Reading.{max_line}
-use Rattle.pair_line.specs.PairProgram.{sort_or_none, comma}
 
 -- Room enough for every line of output with its LF (`pair_has_room`); no line is that long.
 abbrev pub line_room : ℕ
@@ -29,10 +27,9 @@ pub record Begun (ws : List ℕ) (n e k : ℕ) : Type 0 where
   pub sorts : n ≤ 6 + k
   pub entries : e ≤ k
 
--- a join or meet and its text have room
-pub record BoundRoom (up : Bool) (ws : List ℕ) (n e a b : ℕ) (out : List ℕ) (at : ℕ) : Type 0 where
+-- a join or meet has room
+pub record BoundRoom (ws : List ℕ) (n e a b : ℕ) : Type 0 where
   pub asked : Asked ws n e a b
   pub of_line : OfLine (tree_at ws n a)
   pub sorts : n ≤ 6 + 3 * max_line
   pub entries : e ≤ 3 * max_line
-  pub room : at + length (sort_or_none (bound up (tree_at ws n a) (tree_at ws n b)) ++ comma []) ≤ length out

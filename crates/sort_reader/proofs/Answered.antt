@@ -3,7 +3,6 @@
 -- (`store_stores`), keeps (`store_kept`) and ends at. Assumes nothing.
 use mathlib.Core.Path.{◌≡◌, refl, sym, ◌∙◌, ap, subst}
 use mathlib.Core.List.{List, []}
-use mathlib.Core.Option.{Option, none, some}
 use Prim.Native.Nat.{ℕ}
 use native.Mathlib.Omega.{arith}
 use Rattle.std.specs.Prelude.{Ok, Err}
@@ -16,10 +15,9 @@ use Rattle.resolved_sort.specs.Growing.{SortsKept, InTree}
 use Rattle.resolved_sort.proofs.Numbers.{look_number, number_below}
 use Rattle.entry_answers.proofs.SortsLeft.{grew, put_back}
 use Rattle.entry_answers.proofs.RanOut.{Ends, ends_then, made_ends, intern_ends, ran_out}
-use Rattle.sort_text.specs.declared.Read.{Read}
-use Rattle.sort_text.specs.declared.Read.TheVariants.{Refused}
+use Rattle.sort_text.specs.declared.Unread.TheVariants.{Refused}
 use Rattle.sort_text.specs.Parse.{Parsed, parsed, stuck, line}
-use Rattle.sort_text.specs.Reading.{store, stores, read_checks, ReadLeft, read_left, stored_by, read_as_of, reading}
+use Rattle.sort_text.specs.Reading.{store, stores, read_checks, ReadAnswer, ReadLeft, read_left, stored_by, read_as_of, reading}
 use Rattle.sort_text.proofs.Stores.{Stores, store_stores}
 use Rattle.sort_text.proofs.Suffix.{unread_end}
 use Rattle.sort_text.proofs.WhatIsRead.{line_read_whole}
@@ -80,11 +78,11 @@ module _ (ws : List ℕ) (n e : ℕ) (bs : List ℕ) where
         record { passed = f; inside = omega arith; is = l ∙ ap stuck (sym (unread_end bs cs l)); given = refl }
 
   -- Whatever words, counts and line the entry is given: what its answer and the words that it leaves say.
-  pub entry_is_line : (vs : List ℕ) (r : Read) → read_left vs r ≡ reading ws n e bs → ReadSays ws n e bs vs r
+  pub entry_is_line : (vs : List ℕ) (r : ReadAnswer) → read_left vs r ≡ reading ws n e bs → ReadSays ws n e bs vs r
   unfolding reading
   entry_is_line vs r w = go (first_failing (read_checks ws n e bs)) refl w
     where
       go : (o : Tested) → first_failing (read_checks ws n e bs) ≡ o
-          → read_left vs r ≡ refused_or o (λ c. read_left ws (Refused c)) (read_as_of ws n e bs (line bs)) → ReadSays ws n e bs vs r
+          → read_left vs r ≡ refused_or o (λ c. read_left ws (Err (Refused c))) (read_as_of ws n e bs (line bs)) → ReadSays ws n e bs vs r
       go (Ok u) f w = subst says (sym w) (by_line f (line bs) refl)
       go (Err c) f w = subst says (sym w) (record { first = f; given = refl })

@@ -3,7 +3,6 @@
 use mathlib.Core.Path.{◌≡◌, refl, sym, ◌∙◌, ap}
 use mathlib.Core.Logic.{◌⊎◌, inl, inr}
 use mathlib.Core.List.{List}
-use mathlib.Core.Option.{Option, none, some}
 use Prim.Native.Nat.{ℕ}
 use native.Mathlib.Omega.{arith}
 use lib.ListN.{get_or}
@@ -17,10 +16,9 @@ use Rattle.resolved_sort.specs.Entries.{refused_or, Stored, stored}
 use Rattle.resolved_sort.proofs.FailingNumber.{failing_number}
 use Rattle.resolved_sort.specs.declared.Refusal.TheVariants.{LongLine}
 use Rattle.entry_answers.proofs.Refusals.{codes_tell, code_in_byte}
-use Rattle.sort_text.specs.declared.Read.{Read}
-use Rattle.sort_text.specs.declared.Read.TheVariants.{Refused, NotASort, Sort, NoRoom}
+use Rattle.sort_text.specs.declared.Unread.TheVariants.{Refused, NotASort, NoRoom}
 use Rattle.sort_text.specs.Parse.{Parsed, parsed, stuck, line}
-use Rattle.sort_text.specs.Reading.{store, read_checks, code_read, ReadLeft, read_left, stored_by, read_as_of, reading}
+use Rattle.sort_text.specs.Reading.{store, read_checks, ReadAnswer, code_read, ReadLeft, read_left, stored_by, read_as_of, reading}
 use Rattle.sort_reader.specs.Codes.{coded_read, ReadWithin, store_code, line_code_of}
 use Rattle.sort_reader.specs.Answered.{ReadSays}
 use Rattle.sort_reader.proofs.Answered.{entry_is_line}
@@ -37,7 +35,7 @@ line_code ws n e bs (parsed t cs) = stored_code ws n e (stored ws n e (store t (
 line_code ws n e bs (stuck cs) = refl
 
 by_check : (x : Tested) (ws : List ℕ) (r : ReadLeft)
-    → code_read (refused_or x (λ c. read_left ws (Refused c)) r).answer ≡ refused_or x code_of (code_read r.answer)
+    → code_read (refused_or x (λ c. read_left ws (Err (Refused c))) r).answer ≡ refused_or x code_of (code_read r.answer)
 unfolding code_read
 by_check (Ok u) ws r = refl
 by_check (Err c) ws r = refl
@@ -64,11 +62,11 @@ refused_by_number ws n e bs c x = failing_number (λ c. Numbered c ⊎ (c ≡ Lo
 )
     x
 
-within_by : (ws : List ℕ) (n e : ℕ) (bs vs : List ℕ) (r : Read) → ReadSays ws n e bs vs r → ReadWithin r
-within_by ws n e bs vs (Refused c) h = refused_by_number ws n e bs c h.first
-within_by ws n e bs vs (NotASort at) h = tt
-within_by ws n e bs vs (Sort s k) h = tt
-within_by ws n e bs vs NoRoom h = tt
+within_by : (ws : List ℕ) (n e : ℕ) (bs vs : List ℕ) (r : ReadAnswer) → ReadSays ws n e bs vs r → ReadWithin r
+within_by ws n e bs vs (Ok sort) h = tt
+within_by ws n e bs vs (Err (Refused c)) h = refused_by_number ws n e bs c h.first
+within_by ws n e bs vs (Err (NotASort at)) h = tt
+within_by ws n e bs vs (Err NoRoom) h = tt
 
 -- whatever the entry is given
 pub read_within : (ws : List ℕ) (n e : ℕ) (bs : List ℕ) → ReadWithin (reading ws n e bs).answer
@@ -89,25 +87,25 @@ not_twenty c (inl h) e = omega (arith, h.1, e)
 not_twenty c (inr h) e = omega (arith, ap code_of h, e)
 
 -- number and values tell the answers apart
-pub read_tells : (r s : Read) → ReadWithin r → ReadWithin s → coded_read r ≡ coded_read s → r ≡ s
+pub read_tells : (r s : ReadAnswer) → ReadWithin r → ReadWithin s → coded_read r ≡ coded_read s → r ≡ s
 unfolding code_read
 read_tells r s x y p = go r s x y (ap (λ z. z.code) p) (λ i. ap (λ z. get_or z.values i 0) p)
   where
-    go : (r s : Read) → ReadWithin r → ReadWithin s → (coded_read r).code ≡ (coded_read s).code
+    go : (r s : ReadAnswer) → ReadWithin r → ReadWithin s → (coded_read r).code ≡ (coded_read s).code
         → ((i : ℕ) → get_or (coded_read r).values i 0 ≡ get_or (coded_read s).values i 0) → r ≡ s
-    go (Refused c) (Refused d) x y k v = ap Refused (codes_tell c d k)
-    go (Refused c) (NotASort q) x y k v = absurd (not_twenty c x k)
-    go (Refused c) (Sort t l) x y k v = absurd (not_zero c x k)
-    go (Refused c) NoRoom x y k v = absurd (not_fifteen c x k)
-    go (NotASort p) (Refused d) x y k v = absurd (not_twenty d y (sym k))
-    go (NotASort p) (NotASort q) x y k v = ap NotASort (v 0)
-    go (NotASort p) (Sort t l) x y k v = absurd (omega (arith, k))
-    go (NotASort p) NoRoom x y k v = absurd (omega (arith, k))
-    go (Sort s m) (Refused d) x y k v = absurd (not_zero d y (sym k))
-    go (Sort s m) (NotASort q) x y k v = absurd (omega (arith, k))
-    go (Sort s m) (Sort t l) x y k v = λ i. Sort (record { 0 = v 0 i }) (record { sorts = v 1 i; entries = v 2 i })
-    go (Sort s m) NoRoom x y k v = absurd (omega (arith, k))
-    go NoRoom (Refused d) x y k v = absurd (not_fifteen d y (sym k))
-    go NoRoom (NotASort q) x y k v = absurd (omega (arith, k))
-    go NoRoom (Sort t l) x y k v = absurd (omega (arith, k))
-    go NoRoom NoRoom x y k v = refl
+    go (Err (Refused c)) (Err (Refused d)) x y k v = ap (λ d. Err (Refused d)) (codes_tell c d k)
+    go (Err (Refused c)) (Err (NotASort q)) x y k v = absurd (not_twenty c x k)
+    go (Err (Refused c)) (Ok (t, l)) x y k v = absurd (not_zero c x k)
+    go (Err (Refused c)) (Err NoRoom) x y k v = absurd (not_fifteen c x k)
+    go (Err (NotASort p)) (Err (Refused d)) x y k v = absurd (not_twenty d y (sym k))
+    go (Err (NotASort p)) (Err (NotASort q)) x y k v = ap (λ q. Err (NotASort q)) (v 0)
+    go (Err (NotASort p)) (Ok (t, l)) x y k v = absurd (omega (arith, k))
+    go (Err (NotASort p)) (Err NoRoom) x y k v = absurd (omega (arith, k))
+    go (Ok (s, m)) (Err (Refused d)) x y k v = absurd (not_zero d y (sym k))
+    go (Ok (s, m)) (Err (NotASort q)) x y k v = absurd (omega (arith, k))
+    go (Ok (s, m)) (Ok (t, l)) x y k v = λ i. Ok (record { 0 = v 0 i }, record { sorts = v 1 i; entries = v 2 i })
+    go (Ok (s, m)) (Err NoRoom) x y k v = absurd (omega (arith, k))
+    go (Err NoRoom) (Err (Refused d)) x y k v = absurd (not_fifteen d y (sym k))
+    go (Err NoRoom) (Err (NotASort q)) x y k v = absurd (omega (arith, k))
+    go (Err NoRoom) (Ok (t, l)) x y k v = absurd (omega (arith, k))
+    go (Err NoRoom) (Err NoRoom) x y k v = refl

@@ -4,7 +4,7 @@ use mathlib.Core.Bool.{true, ◌&&◌, and-eq-true_iff}
 use mathlib.Core.List.{List, [], ◌∷◌}
 use Prim.Native.Nat.{ℕ, zero, suc, ◌-◌, ◌*◌, ◌≤◌, ◌<◌}
 use native.Mathlib.Omega.{arith}
-use lib.ListN.{length, take, drop, length-take, length-drop}
+use lib.ListN.{length, take, length-take, length-drop}
 use lib.Dec.{leb, eqb}
 use borrow.Author.Tests.{leb-true, le-leb, lt-leb, eqb-true}
 use Rattle.resolved_sort.specs.declared.Refusal.{Refusal}
@@ -12,33 +12,35 @@ use Rattle.resolved_sort.specs.declared.Refusal.TheVariants.{TooShort, LongLine}
 use Rattle.resolved_sort.specs.declared.SortId.{SortId}
 use Rattle.resolved_sort.specs.declared.Sort as Sorts
 use Rattle.resolved_sort.specs.Checks.{Tested}
-use Rattle.std.specs.Prelude.{Ok, Err}
-use Rattle.resolved_sort.specs.declared.Joined.{Joined}
+use Rattle.std.specs.Prelude.{Some, None, Result, Ok, Err, IsErrAnd}
+use Rattle.resolved_sort.specs.declared.Joined.TheVariants.{At}
+use Rattle.resolved_sort.specs.declared.Counts.{Counts}
 use Rattle.resolved_sort.specs.Tree.{Tree}
 use Rattle.resolved_sort.specs.Interning.{look, member, Outcome, made, nothing, full}
-use Rattle.resolved_sort.specs.Storage.{max_sorts, max_entries, full_length, entries_at, kind_at, words_at, tree_of, Row, trees, sorts_of}
+use Rattle.resolved_sort.specs.Storage.{max_sorts, max_entries, full_length, given_back, entries_at, kind_at, words_at, tree_of, Row, trees, sorts_of}
 use Rattle.resolved_sort.specs.Checks.{within_lent, fixed_six, at_ceiling, Check, first_failing, sort_checks}
-use Rattle.resolved_sort.specs.Entries.{stored}
+use Rattle.resolved_sort.specs.Entries.{Stored, stored}
 use Rattle.resolved_sort.specs.Rows.{stored_at}
 use Rattle.resolved_sort.proofs.Below.{below_each}
 use Rattle.resolved_sort.proofs.Numbers.{member_look}
 use Rattle.resolved_sort.proofs.Trees.{length_trees, look_row}
 use Rattle.resolved_sort.proofs.Grown.{grown_none}
 use Rattle.resolved_sort.specs.Growing.{SortsKept, InTree}
+use Rattle.resolved_sort.proofs.Unchanged.{length_after}
 use Rattle.resolved_sort.proofs.GivenBack.{made_is_given_back}
 use Rattle.resolved_sort.proofs.FirstFailing.{first_fails, first_passes, append_fails, append_passes, cons_passes}
-use Rattle.sort_text.specs.declared.Read.{Read}
-use Rattle.sort_text.specs.declared.Read.TheVariants.{Refused as NotRead, NotASort, NoRoom}
+use Rattle.sort_text.specs.declared.Unread.{Unread}
+use Rattle.sort_text.specs.declared.Unread.TheVariants.{Refused, NotASort, NoRoom}
 use Rattle.sort_text.specs.Parse.{Parsed, parsed, stuck, line}
 use Rattle.sort_text.specs.Postfix.{Short, sixth, postfix, steps, HasPrimitives, HasSix, InStack}
-use Rattle.sort_text.specs.Reading.{store, short_line, read_checks, read_left, stored_by, read_as_of, reading}
+use Rattle.sort_text.specs.Reading.{store, ReadAnswer, short_line, read_checks, read_left, read_at, stored_by, read_as_of, reading}
 use Rattle.sort_text.proofs.Stores.{steps_are_store}
 use Rattle.sort_text.proofs.Running.{steps_kept}
 use Rattle.sort_text.proofs.WhatIsRead.{line_writable}
 use Rattle.sort_text.proofs.LineSteps.{line_steps_short}
 use Rattle.sort_recogniser.specs.Inner.Says.{Recognised, done_at, stuck_at, Says}
-use Rattle.sort_reader.specs.Inner.Run.{stack_of, run_at, Running}
-use Rattle.sort_reader.specs.Inner.Tested.{Passes, kept_or_no_room}
+use Rattle.sort_reader.specs.Inner.Run.{stack_of, run_at, Running, RunLeft}
+use Rattle.sort_reader.specs.Inner.Tested.{Passes}
 
 -- checks 14 and 19
 module _ (ws : List ℕ) (n e : ℕ) (bs : List ℕ) where
@@ -74,14 +76,26 @@ module _ (ws : List ℕ) (n e : ℕ) (bs : List ℕ) where
       unfolding short_line first_failing
       all_pass l = sym (past_14 ∙ first_passes nineteen [] (le-leb (length bs) 200 l))
 
+-- what a `?` hands on
+pub handed : {A E : Type 0} (x : Result A E) (e : E) → IsErrAnd x (λ f. f ≡ e) → x ≡ Err e
+handed (Ok a) e h = absurd h
+handed (Err f) e h = ap Err h
+
+-- what reading a line has left, by its answer
+pub line_read : (us : List ℕ) (k : Counts) {r : Result SortId Unread} {s : SortId} → r ≡ Ok s → read_left us (Ok (s, k)) ≡ read_at us k r
+line_read us k e = ap (read_at us k) (sym e)
+
+pub line_unread : (us : List ℕ) (k : Counts) {r : Result SortId Unread} {u : Unread} → r ≡ Err u → read_left us (Err u) ≡ read_at us k r
+line_unread us k e = ap (read_at us k) (sym e)
+
 -- what it means that no check fails
 module _ (ws : List ℕ) (n e : ℕ) (bs : List ℕ) (t : Tested) (et : t ≡ first_failing (read_checks ws n e bs)) where
-  pub refused : (c : Refusal) → t ≡ Err c → read_left ws (NotRead c) ≡ reading ws n e bs
+  pub refused : (c : Refusal) → t ≡ Err c → read_left ws (Err (Refused c)) ≡ reading ws n e bs
   unfolding reading
   refused c r = rw (sym et ∙ r)
 
   module _ (p : t ≡ Ok tt) where
-    pub answered : (us : List ℕ) (r : Read) → read_left us r ≡ read_as_of ws n e bs (line bs) → read_left us r ≡ reading ws n e bs
+    pub answered : (us : List ℕ) (r : ReadAnswer) → read_left us r ≡ read_as_of ws n e bs (line bs) → read_left us r ≡ reading ws n e bs
     unfolding reading
     answered us r g = g ∙ rw (sym et ∙ p)
 
@@ -152,14 +166,14 @@ module _ (ws : List ℕ) (n e : ℕ) (bs : List ℕ) (q : Passes ws n e bs) wher
         (sorts_of ws n e) (line_steps_short bs cs t is) (grown_none ws n e q.checked) six_in tt)
 
   -- a line that is no sort
-  not_a_sort_at : (P : Parsed) (out : List ℕ) (p : ℕ) → Says bs 0 (length bs) [] P out (stuck_at p) → read_left ws (NotASort p) ≡ read_as_of ws n e bs P
+  not_a_sort_at : (P : Parsed) (out : List ℕ) (p : ℕ) → Says bs 0 (length bs) [] P out (stuck_at p) → read_left ws (Err (NotASort p)) ≡ read_as_of ws n e bs P
   unfolding Says read_as_of
   not_a_sort_at (parsed t cs) out p s = absurd s
   not_a_sort_at (stuck cs) out p s =
-      let f : p ≡ length bs - length cs = omega (arith, s.0, ap length s.1, length-drop p bs) in ap (λ x. read_left ws (NotASort x)) f
+      let f : p ≡ length bs - length cs = omega (arith, s.0, ap length s.1, length-drop p bs) in ap (λ x. read_left ws (Err (NotASort x))) f
 
   module _ (out : List ℕ) (r : Recognised) (s : Says bs 0 (length bs) [] (line bs) out r) where
-    pub not_a_sort : (p : ℕ) → r ≡ stuck_at p → read_left ws (NotASort p) ≡ read_as_of ws n e bs (line bs)
+    pub not_a_sort : (p : ℕ) → r ≡ stuck_at p → read_left ws (Err (NotASort p)) ≡ read_as_of ws n e bs (line bs)
     not_a_sort p i = not_a_sort_at (line bs) out p (subst (Says bs 0 (length bs) [] (line bs) out) i s)
 
     -- a sort, and its steps
@@ -185,8 +199,8 @@ module _ (ws : List ℕ) (n e : ℕ) (bs : List ℕ) (q : Passes ws n e bs) wher
       short_steps : Short (postfix it.sort)
       short_steps = line_steps_short bs it.left it.sort it.is
 
-      pub runs : (ids : List SortId) → Running ws n e (take m out) 0 ids 0
-      runs ids =
+      pub runs : Running ws n e (take m out) 0 [] 0
+      runs =
           record {
             checked = q.checked;
             has_six = has_six;
@@ -196,22 +210,47 @@ module _ (ws : List ℕ) (n e : ℕ) (bs : List ℕ) (q : Passes ws n e bs) wher
             steps_left = subst Short (sym it.written) short_steps;
           }
 
-      run_is : (ids : List SortId) → run_at ws n e (drop 0 (take m out)) ids 0 ≡ stored ws n e (store it.sort (sorts_of ws n e))
+      run_is : run_at ws n e (take m out) [] 0 ≡ stored ws n e (store it.sort (sorts_of ws n e))
       unfolding run_at stack_of
-      run_is ids = ap (λ ops. stored ws n e (steps ops [] (sorts_of ws n e))) it.written ∙ ap (stored ws n e) (store_is it.left it.sort it.is)
+      run_is = ap (λ ops. stored ws n e (steps ops [] (sorts_of ws n e))) it.written ∙ ap (stored ws n e) (store_is it.left it.sort it.is)
 
-      by_outcome : (O : Outcome Tree) → SortsKept ws n e InTree (sorts_of ws n e) O
-          → kept_or_no_room (stored ws n e O).words n e (stored ws n e O).answer ≡ stored_by ws n e (stored ws n e O) (stored ws n e O).answer
-      unfolding SortsKept stored kept_or_no_room stored_by
-      by_outcome (made v S) h = refl
-      by_outcome (nothing S) h = ap (λ us. read_left us NoRoom) (made_is_given_back ws n e q.checked S h.0)
-      by_outcome (full S) h = ap (λ us. read_left us NoRoom) (made_is_given_back ws n e q.checked S h.0)
+      -- what was made is kept
+      sort_kept : (vs : List ℕ) (s : SortId) (k : Counts) (w : Stored) → stored_at vs (At s k) ≡ w
+          → read_left vs (Ok (s, k)) ≡ stored_by ws n e w w.answer
+      unfolding stored_by
+      sort_kept vs s k w f = subst (λ (w : Stored). read_left vs (Ok (s, k)) ≡ stored_by ws n e w w.answer) f refl
 
-      pub read_stored : (ids : List SortId) (vs : List ℕ) (j : Joined) → stored_at vs j ≡ run_at ws n e (drop 0 (take m out)) ids 0
-          → (us : List ℕ) (a : Read) → read_left us a ≡ kept_or_no_room vs n e j
-          → read_left us a ≡ read_as_of ws n e bs (line bs)
-      unfolding read_as_of
-      read_stored ids vs j f us a g =
-          g ∙ (ap (λ x. kept_or_no_room x.words n e x.answer) (f ∙ run_is ids) ∙
-          (by_outcome (store it.sort (sorts_of ws n e)) (store_kept it.left it.sort it.is) ∙ sym
-          (ap (read_as_of ws n e bs) it.is)))
+      -- or given back
+      none_kept : (vs : List ℕ) (k : Counts) (O : Outcome Tree) → SortsKept ws n e InTree (sorts_of ws n e) O → RunLeft vs k None (stored ws n e O)
+          → (length vs ≡ length ws) × (read_left (given_back n e vs) (Err NoRoom) ≡ stored_by ws n e (stored ws n e O) (stored ws n e O).answer)
+      unfolding SortsKept stored stored_by
+      none_kept vs k (made v S) h r = absurd r.1
+      none_kept vs k (nothing S) h r = (
+        ap length r.0 ∙ length_after ws n e q.checked S h.0,
+        ap (λ us. read_left (given_back n e us) (Err NoRoom)) r.0 ∙ ap (λ us. read_left us (Err NoRoom)) (made_is_given_back ws n e q.checked S h.0),
+      )
+      none_kept vs k (full S) h r = (
+        ap length r.0 ∙ length_after ws n e q.checked S h.0,
+        ap (λ us. read_left (given_back n e us) (Err NoRoom)) r.0 ∙ ap (λ us. read_left us (Err NoRoom)) (made_is_given_back ws n e q.checked S h.0),
+      )
+
+      module _ (vs : List ℕ) (k : Counts) where
+        stored_is : stored_by ws n e (stored ws n e (store it.sort (sorts_of ws n e))) (stored ws n e (store it.sort (sorts_of ws n e))).answer
+            ≡ read_as_of ws n e bs (line bs)
+        unfolding read_as_of
+        stored_is = sym (ap (read_as_of ws n e bs) it.is)
+
+        pub read_stored : (s : SortId) → RunLeft vs k (Some s) (run_at ws n e (take m out) [] 0) → read_left vs (Ok (s, k)) ≡ read_as_of ws n e bs (line bs)
+        read_stored s f = sort_kept vs s k _ (f ∙ run_is) ∙ stored_is
+
+        module _ (f : RunLeft vs k None (run_at ws n e (take m out) [] 0)) where
+          nothing_stored : (length vs ≡ length ws)
+              × (read_left (given_back n e vs) (Err NoRoom)
+              ≡ stored_by ws n e (stored ws n e (store it.sort (sorts_of ws n e))) (stored ws n e (store it.sort (sorts_of ws n e))).answer)
+          nothing_stored = none_kept vs k (store it.sort (sorts_of ws n e)) (store_kept it.left it.sort it.is) (subst (λ w. RunLeft vs k None w) run_is f)
+
+          pub as_long : length vs ≡ length ws
+          as_long = nothing_stored.0
+
+          pub no_room : read_left (given_back n e vs) (Err NoRoom) ≡ read_as_of ws n e bs (line bs)
+          no_room = nothing_stored.1 ∙ stored_is

@@ -2,13 +2,19 @@
 -- match binds, and its conclusion is the call's own equation. Assumes nothing.
 use mathlib.Core.Path.{◌≡◌, refl, sym, ◌∙◌, ap, ap₂, subst}
 use mathlib.Core.Bool.{Bool, true, false, and-eq-true_iff}
+use Rattle.std.specs.Prelude.{Option, Some, None, Result, Ok, Err}
+use Rattle.std.specs.Result.{result_ok}
+use Rattle.resolved_sort.specs.declared.NoRoom.{NoRoom}
+use Rattle.resolved_sort.specs.declared.ComplexSort.{ComplexSort}
+use Rattle.sort_reader.specs.declared.Step.{Step}
+use Rattle.sort_reader.specs.declared.Step.TheVariants.{Fixed, Container, Function}
 use mathlib.Core.List.{List, [], ◌∷◌, ◌++◌}
 use Prim.Native.Nat.{ℕ, zero, suc, ◌+◌, ◌-◌, ◌≤◌, ◌<◌}
 use native.Mathlib.Omega.{arith}
 use native.Mathlib.Numerals.{add-one}
 use native.Mathlib.Decide.{ℕ_discrete}
 use lib.ListN.{length, get_or, drop, take, set, drop_of_length-le, length-take, length-drop}
-use lib.Seq.{drop-cons, length-take-le, take_at, take-suc, take-suc-set, get_or-set_same, get_or-set_other, get_or-drop, get_or-take}
+use lib.Seq.{drop-cons, length-take-le, take-suc, get_or-set_same, get_or-set_other, get_or-drop, get_or-take}
 use lib.Dec.{ltb}
 use borrow.Author.Tests.{lt-ltb, le-ltb}
 use Rattle.resolved_sort.specs.declared.SortId.{SortId}
@@ -19,7 +25,7 @@ use Rattle.resolved_sort.specs.Tree.{Tree, container, function, Trees, no_args, 
 use Rattle.resolved_sort.specs.Interning.{Sorts, look, member, need, made, nothing, ◌then◌, intern}
 use Rattle.resolved_sort.specs.Storage.{max_entries, trees, look_all, sorts_of}
 use Rattle.resolved_sort.specs.Entries.{after, Stored, stored}
-use Rattle.resolved_sort.specs.Rows.{AllBelow, stored_at}
+use Rattle.resolved_sort.specs.Rows.{AllBelow, Checked, stored_at, interned_at}
 use Rattle.resolved_sort.specs.Bounds.{intern_at}
 use Rattle.resolved_sort.specs.Inner.Storage.{sort_numbers}
 use Rattle.resolved_sort.proofs.SortNumbers.{length_sort_numbers, get_d_sort_numbers, take_sort_numbers, drop_sort_numbers}
@@ -29,16 +35,33 @@ use Rattle.resolved_sort.specs.Growing.{parts_in, members, SortsKept, InTree}
 use Rattle.resolved_sort.proofs.Grown.{grown_none}
 use Rattle.resolved_sort.proofs.Unchanged.{longer}
 use Rattle.resolved_sort.proofs.Kept.{intern_kept}
-use Rattle.resolved_sort.proofs.Reached.{Reached, reached, stopped, ended, reached_checked, reached_list}
+use Rattle.resolved_sort.proofs.Reached.{Reached, reached, ended, reached_checked, reached_list}
 use Rattle.resolved_sort.proofs.Reached.{reached_trees, reached_below, reached_sort, reached_sorts, stored_again}
-use Rattle.resolved_sort.proofs.Reached.{here}
+use Rattle.resolved_sort.proofs.Reached.{here, no_confusion}
 use Rattle.resolved_sort.proofs.BoundsCode.{answer_old, answer_none, members_below}
 use Rattle.resolved_sort.proofs.Pairs.{arity_look_all}
 use native.Mathlib.Nat.{add-zero}
 use Rattle.sort_text.specs.Postfix.{Short, sixth, op_of, popped, not_enough, take_arguments, applied, step_on, steps, InStack, HasSix}
 use Rattle.sort_text.proofs.Stores.{then_then, append, append_end}
 use Rattle.sort_text.proofs.Running.{stack_extends, six_extends, steps_kept}
-use Rattle.sort_reader.specs.Inner.Run.{id_at, stack_of, run_at, Running, GoesOn, go_on, arguments_of}
+use Rattle.sort_reader.specs.Inner.Run.{id_at, stack_of, run_at, Running, SaysStep, TopTaken, MadeNone, RunLeft, arguments_of}
+
+-- what interning answers
+pub full_of : (ws : List ℕ) (K : Counts) (r : Result SortId NoRoom) → result_ok r ≡ None → stored_at ws Full ≡ interned_at ws K r
+full_of ws K (Ok x) z = no_confusion (cc)
+full_of ws K (Err e) z = refl
+
+pub made_of : (ws : List ℕ) (K : Counts) (r : Result SortId NoRoom) {i : SortId} → result_ok r ≡ Some i → stored_at ws (At i K) ≡ interned_at ws K r
+made_of ws K (Ok x) {i} z = ap (λ (y : SortId). stored_at ws (At y K)) (cc)
+made_of ws K (Err e) {i} z = no_confusion (cc)
+
+-- no sort was made
+none_left : (ws : List ℕ) (K : Counts) {j : Joined} {w : Stored} → MadeNone j → stored_at ws j ≡ w → RunLeft ws K None w
+none_left ws K {j} m e = subst (λ (w : Stored). (ws ≡ w.words) × MadeNone w.answer) e (refl, m)
+
+-- what a `?` hands on
+pub handed_on : (ws : List ℕ) (K : Counts) (w : Stored) (o : Option SortId) → o ≡ None → RunLeft ws K None w → RunLeft ws K o w
+handed_on ws K w o e r = subst (λ x. RunLeft ws K x w) (sym e) r
 
 -- stacks
 stack_in : (ws : List ℕ) (n e : ℕ) (ids : List SortId) (d : ℕ) → ((j : ℕ) → j < d → id_at ids j < n) → InStack (sorts_of ws n e) (stack_of (trees ws n) ids d)
@@ -158,7 +181,7 @@ module _ (ws : List ℕ) (C : Counts) (ops : List ℕ) (i : ℕ) (ids : List Sor
   abbrev whole : Stored
   whole = run_at ws n e (drop i ops) ids depth
 
-  pub run_none : length ops ≤ i → depth ≡ 0 → stored_at ws (Nothing C) ≡ whole
+  run_none : length ops ≤ i → depth ≡ 0 → stored_at ws (Nothing C) ≡ whole
   unfolding run_at stack_of steps
   run_none h z = answer_none ws C q.checked ∙ rw (drop_of_length-le ops {i = i} h, z)
 
@@ -166,7 +189,7 @@ module _ (ws : List ℕ) (C : Counts) (ops : List ℕ) (i : ℕ) (ids : List Sor
   unfolding stack_of
   stack_cons d z = rw z
 
-  pub run_top : length ops ≤ i → (depth ≡ 0 → ⊥) → (x : SortId) → x.0 ≡ id_at ids (depth - 1) → stored_at ws (At x C) ≡ whole
+  run_top : length ops ≤ i → (depth ≡ 0 → ⊥) → (x : SortId) → x.0 ≡ id_at ids (depth - 1) → stored_at ws (At x C) ≡ whole
   unfolding run_at steps
   run_top h z x f =
       let b : x.0 < n = omega (arith, f, q.numbers (depth - 1) (omega arith)) in
@@ -197,7 +220,7 @@ module _ (ws : List ℕ) (C : Counts) (ops : List ℕ) (i : ℕ) (ids : List Sor
     six_in : HasSix S
     six_in k l = subst (λ t. member T t ≡ true) (q.six k l) (member_look T k (omega (arith, q.has_six, length_trees ws n)))
 
-    pub run_short : 6 ≤ op → depth ≡ 0 → stored_at ws (Nothing C) ≡ whole
+    run_short : 6 ≤ op → depth ≡ 0 → stored_at ws (Nothing C) ≡ whole
     unfolding stack_of
     run_short l z =
         answer_none ws C q.checked
@@ -206,7 +229,7 @@ module _ (ws : List ℕ) (C : Counts) (ops : List ℕ) (i : ℕ) (ids : List Sor
 
     -- one of the fixed six on the stack
     module _ (l : op < 6) where
-      pub pushed : Running ws n e ops (i + 1) (set ids depth (record { 0 = op })) (depth + 1)
+      pushed : Running ws n e ops (i + 1) (set ids depth (record { 0 = op })) (depth + 1)
       pushed =
           record {
             checked = q.checked;
@@ -217,12 +240,12 @@ module _ (ws : List ℕ) (C : Counts) (ops : List ℕ) (i : ℕ) (ids : List Sor
             steps_left = short_left.1;
           }
 
-      pub push_goes_on : (vs : List ℕ) (r : Joined) → stored_at vs r ≡ run_at ws n e later (set ids depth (record { 0 = op })) (depth + 1) → stored_at vs r ≡ whole
+      push_goes_on : run_at ws n e later (set ids depth (record { 0 = op })) (depth + 1) ≡ whole
       unfolding run_at
-      push_goes_on vs r g =
-          g ∙ (ap (λ st. stored ws n e (steps later st S)) (stack_top T ids depth (record { 0 = op }) (omega (arith, len, q.room)) ∙
+      push_goes_on =
+          ap (λ st. stored ws n e (steps later st S)) (stack_top T ids depth (record { 0 = op }) (omega (arith, len, q.room)) ∙
           ap (λ t. t ∷ stack_of T ids depth) (q.six op l))
-          ∙ sym (whole_is ∙ ap (λ O. stored ws n e (O then (λ st S. steps later st S))) (push_step op (stack_of T ids depth) S l)))
+          ∙ sym (whole_is ∙ ap (λ O. stored ws n e (O then (λ st S. steps later st S))) (push_step op (stack_of T ids depth) S l))
 
     -- a sort interned, and then on the stack at base
     module _ (t : Tree) (base : ℕ) (hb : base < depth) (p : parts_in T t ≡ true) (few : need t ≤ 16)
@@ -284,34 +307,15 @@ module _ (ws : List ℕ) (C : Counts) (ops : List ℕ) (i : ℕ) (ids : List Sor
                 (on_top there.sorts there.sort (stack_of T ids base) there.inside
                 (stack_extends S there.sorts (stack_of T ids base) there.extends (stack_in ws n e ids base (λ j l. q.numbers j (omega arith)))))
 
-        made_goes_on : (us : List ℕ) (r : Joined) → stored_at us r ≡ run_at vs K.sorts K.entries later
-            (set ids base c) (base + 1) → stored_at us r ≡ whole
-        made_goes_on us r g =
-            g ∙ (on_stack ∙ (after_is ∙ sym (is ∙ ap (λ O. stored ws n e (O then (λ u S. steps later (u ∷ stack_of T ids base) S))) there.is)))
+        made_goes_on : run_at vs K.sorts K.entries later (set ids base c) (base + 1) ≡ whole
+        made_goes_on = on_stack ∙ (after_is ∙ sym (is ∙ ap (λ O. stored ws n e (O then (λ u S. steps later (u ∷ stack_of T ids base) S))) there.is))
 
-      -- by the three answers of interning
-      pub goes_on : (j : Joined) → stored_at vs j ≡ intern_at ws n e t → GoesOn vs ops i ids base j
-      unfolding GoesOn
-      goes_on (At c K) f = next c K f
-      goes_on (Nothing K) f = tt
-      goes_on Full f = tt
-
-      to_stored : (j : Joined) → stored_at vs j ≡ intern_at ws n e t → stored_at vs j ≡ stored ws n e (intern t S)
+      -- there is no room
+      full_is : stored_at vs Full ≡ intern_at ws n e t → stored_at vs Full ≡ whole
       unfolding intern_at
-      to_stored j f = f
-
-      pub gone_on : (j : Joined) → stored_at vs j ≡ intern_at ws n e t → (us : List ℕ) (r : Joined)
-          → stored_at us r ≡ go_on vs ops i ids base j → stored_at us r ≡ whole
-      unfolding go_on
-      gone_on (At c K) f us r g = made_goes_on c K f us r g
-      gone_on (Nothing K) f us r g =
-          let x = stopped ws n e (intern t S) vs K (to_stored (Nothing K) f) in
-          g ∙ (to_stored (Nothing K) f ∙ (ap (stored ws n e) x.1 ∙ sym
-          (is ∙ ap (λ O. stored ws n e (O then (λ u S. steps later (u ∷ stack_of T ids base) S))) x.1)))
-      gone_on Full f us r g =
-          let x = ended ws n e (intern t S) vs (to_stored Full f) in
-          g ∙ (to_stored Full f ∙ (ap (stored ws n e) x.1 ∙ sym
-          (is ∙ ap (λ O. stored ws n e (O then (λ u S. steps later (u ∷ stack_of T ids base) S))) x.1)))
+      full_is f =
+          let x = ended ws n e (intern t S) vs f in
+          f ∙ (ap (stored ws n e) x.1 ∙ sym (is ∙ ap (λ O. stored ws n e (O then (λ u S. steps later (u ∷ stack_of T ids base) S))) x.1))
 
     -- a container step
     module _ (l : 6 ≤ op) (m : op < 11) (z : depth ≡ 0 → ⊥) where
@@ -336,14 +340,20 @@ module _ (ws : List ℕ) (C : Counts) (ops : List ℕ) (i : ℕ) (ids : List Sor
       unfolding need
       container_few = omega arith
 
-      pub container_goes_on : (vs : List ℕ) (j : Joined) → stored_at vs j ≡ intern_at ws n e (container (op_of (op - 6))
-          (look T last)) → GoesOn vs ops i ids (depth - 1) j
-      container_goes_on vs = goes_on (container (op_of (op - 6)) (look T last)) (depth - 1) (omega arith) container_parts container_few container_is vs
+      module _ (vs : List ℕ) where
+        abbrev made_container : Tree
+        made_container = container (op_of (op - 6)) (look T last)
 
-      pub container_gone_on : (vs : List ℕ) (j : Joined) → stored_at vs j ≡ intern_at ws n e (container (op_of (op - 6))
-          (look T last)) → (us : List ℕ) (r : Joined)
-          → stored_at us r ≡ go_on vs ops i ids (depth - 1) j → stored_at us r ≡ whole
-      container_gone_on vs = gone_on (container (op_of (op - 6)) (look T last)) (depth - 1) (omega arith) container_parts container_few container_is vs
+        container_next : (c : SortId) (K : Counts) → stored_at vs (At c K) ≡ intern_at ws n e made_container
+            → Running vs K.sorts K.entries ops (i + 1) (set ids (depth - 1) c) (depth - 1 + 1)
+        container_next = next made_container (depth - 1) (omega arith) container_parts container_few container_is vs
+
+        container_goes_on : (c : SortId) (K : Counts) → stored_at vs (At c K) ≡ intern_at ws n e made_container
+            → run_at vs K.sorts K.entries later (set ids (depth - 1) c) (depth - 1 + 1) ≡ whole
+        container_goes_on = made_goes_on made_container (depth - 1) (omega arith) container_parts container_few container_is vs
+
+        container_full : stored_at vs Full ≡ intern_at ws n e made_container → stored_at vs Full ≡ whole
+        container_full = full_is made_container (depth - 1) (omega arith) container_parts container_few container_is vs
 
     -- a function step
     module _ (l : 11 ≤ op) (z : depth ≡ 0 → ⊥) (k : ℕ) (ek : k ≡ arguments_of op) (enough : k < depth) where
@@ -394,14 +404,19 @@ module _ (ws : List ℕ) (C : Counts) (ops : List ℕ) (i : ℕ) (ids : List Sor
       unfolding need
       function_few = omega (arith, few_arguments, arity_look_all T numbers, length-take k (drop base (sort_numbers ids)))
 
-      pub function_goes_on : (vs : List ℕ) (j : Joined) → stored_at vs j ≡ intern_at ws n e arrow → GoesOn vs ops i ids base j
-      function_goes_on vs = goes_on arrow base (omega arith) function_parts function_few function_is vs
+      module _ (vs : List ℕ) where
+        function_next : (c : SortId) (K : Counts) → stored_at vs (At c K) ≡ intern_at ws n e arrow
+            → Running vs K.sorts K.entries ops (i + 1) (set ids base c) (base + 1)
+        function_next = next arrow base (omega arith) function_parts function_few function_is vs
 
-      pub function_gone_on : (vs : List ℕ) (j : Joined) → stored_at vs j ≡ intern_at ws n e arrow
-          → (us : List ℕ) (r : Joined) → stored_at us r ≡ go_on vs ops i ids base j → stored_at us r ≡ whole
-      function_gone_on vs = gone_on arrow base (omega arith) function_parts function_few function_is vs
+        function_goes_on : (c : SortId) (K : Counts) → stored_at vs (At c K) ≡ intern_at ws n e arrow
+            → run_at vs K.sorts K.entries later (set ids base c) (base + 1) ≡ whole
+        function_goes_on = made_goes_on arrow base (omega arith) function_parts function_few function_is vs
 
-    pub too_few : 11 ≤ op → (depth ≡ 0 → ⊥) → (k : ℕ) → k ≡ arguments_of op → depth ≤ k → stored_at ws (Nothing C) ≡ whole
+        function_full : stored_at vs Full ≡ intern_at ws n e arrow → stored_at vs Full ≡ whole
+        function_full = full_is arrow base (omega arith) function_parts function_few function_is vs
+
+    too_few : 11 ≤ op → (depth ≡ 0 → ⊥) → (k : ℕ) → k ≡ arguments_of op → depth ≤ k → stored_at ws (Nothing C) ≡ whole
     too_few l z k ek h =
         answer_none ws C q.checked
         ∙ sym (whole_is ∙ (ap (λ st. stored ws n e (step_on op st S then (λ st S. steps later st S))) (stack_cons (depth - 1) (omega arith))
@@ -410,46 +425,178 @@ module _ (ws : List ℕ) (C : Counts) (ops : List ℕ) (i : ℕ) (ids : List Sor
         ∙ ap (λ x. applied (look T (id_at ids (depth - 1))) x S)
         (ap (λ j. take_arguments j no_args (stack_of T ids (depth - 1))) (sym ek) ∙ takes_short T ids (depth - 1) k no_args (omega arith)))))
 
--- copying the numbers of a stack
-pub copied_one : (out ids : List SortId) (base j : ℕ) (v : SortId) → take j out ≡ take j (drop base ids) → j < length out → base + j < length ids
-    → v ≡ get_or ids (base + j) (record { 0 = 0 }) → take (j + 1) (set out j v) ≡ take (j + 1) (drop base ids)
-copied_one out ids base j v e h l f =
-    let m : j < length (drop base ids) = omega (arith, length-drop base ids) in
-    ap (λ k. take k (set out j v)) (add-one j)
-    ∙ (take-suc-set out j v h ∙ (ap₂ (λ xs x. xs ++ (x ∷ [])) e (f ∙ sym (get_or-drop base ids j (record { 0 = 0 })))
-    ∙ (sym (take-suc (drop base ids) j (record { 0 = 0 }) m) ∙ ap (λ k. take k (drop base ids)) (sym (add-one j)))))
+-- The steps so far: the list has grown to vs, and the rest of the steps comes to the whole.
+module _ (ws : List ℕ) (C : Counts) (ops : List ℕ) where
+  pub record Going (vs : List ℕ) (K : Counts) (i : ℕ) (ids : List SortId) (depth : ℕ) : Type 0 where
+    pub running : Running vs K.sorts K.entries ops i ids depth
+    pub rest : run_at vs K.sorts K.entries (drop i ops) ids depth ≡ run_at ws C.sorts C.entries ops [] 0
 
--- the numbers of what was copied
-pub copied_numbers : (out ids : List SortId) (base k : ℕ) → take k out ≡ take k (drop base ids)
-    → take k (sort_numbers out) ≡ take k (drop base (sort_numbers ids))
-copied_numbers out ids base k e =
-    sym (take_sort_numbers k out) ∙ (ap sort_numbers e ∙ (take_sort_numbers k (drop base ids) ∙ ap (take k) (drop_sort_numbers base ids)))
+  pub starts : (ids : List SortId) → Running ws C.sorts C.entries ops 0 [] 0 → Going ws C 0 ids 0
+  unfolding run_at stack_of
+  starts ids q =
+      record {
+        running = record {
+          checked = q.checked;
+          has_six = q.has_six;
+          six = q.six;
+          numbers = λ d l. absurd (omega (arith, l));
+          room = q.room;
+          steps_left = q.steps_left;
+        };
+        rest = refl;
+      }
 
--- a part of the numbers copied to the front of others
-pub copied_part : (ids new ys : List SortId) (from k : ℕ) → from + k ≤ length ids → new ≡ take (from + k - from) (drop from ids)
-    → take k (new ++ ys) ≡ take k (drop from ids)
-copied_part ids new ys from k h f =
-    let z : from + k - from ≡ k = omega arith in
-    let is : new ≡ take k (drop from ids) = f ∙ ap (λ m. take m (drop from ids)) z in
-    let long : k ≡ length new = sym (ap length is ∙ length-take-le k (drop from ids) (omega (arith, length-drop from ids, h))) in
-    take_at new ys k (sym long) ∙ is
+-- the stack that was left
+pub going_as : (ws : List ℕ) (C : Counts) (ops vs : List ℕ) (K : Counts) {i : ℕ} {ids left : List SortId} {depth d : ℕ} → left ≡ ids → d ≡ depth
+    → Going ws C ops vs K i ids depth → Going ws C ops vs K i left d
+going_as ws C ops vs K {i} {ids} {left} {depth} {d} e f g = subst (λ xs. Going ws C ops vs K i xs d) (sym e) (subst (Going ws C ops vs K i ids) (sym f) g)
 
--- what going on asks and answers, by what was made
-pub going_at : (vs ops : List ℕ) (i : ℕ) (ids : List SortId) (base : ℕ) (j : Joined) → GoesOn vs ops i ids base j → (c : SortId) (K : Counts) → j ≡ At c K
-    → Running vs K.sorts K.entries ops (i + 1) (set ids base c) (base + 1)
-unfolding GoesOn
-going_at vs ops i ids base j g c K e = subst (GoesOn vs ops i ids base) e g
+module _ (ws : List ℕ) (C : Counts) (ops vs : List ℕ) (K : Counts) (i : ℕ) (ids : List SortId) (len : length ids ≡ 256) (depth : ℕ)
+    (g : Going ws C ops vs K i ids depth) where
+  abbrev answer : Stored
+  answer = run_at ws C.sorts C.entries ops [] 0
 
-pub gone_at : (vs ops : List ℕ) (i : ℕ) (ids : List SortId) (base : ℕ) (j : Joined) (c : SortId) (K : Counts) → j ≡ At c K
-    → run_at vs K.sorts K.entries (drop (i + 1) ops) (set ids base c) (base + 1) ≡ go_on vs ops i ids base j
-unfolding go_on
-gone_at vs ops i ids base j c K e = ap (go_on vs ops i ids base) (sym e)
+  -- after the last step: what is on top
+  pub ends : length ops ≤ i → (l : ℕ) (top : Option SortId) → TopTaken ids depth l top → RunLeft vs K top answer
+  ends h l (Some id) t =
+      let d : l ≡ depth - 1 = omega (arith, t.0) in
+      run_top vs K ops i ids len depth g.running h (λ z. omega (arith, t.0, z)) id (t.1 ∙ ap (id_at ids) d) ∙ g.rest
+  ends h l None t = none_left vs K tt (run_none vs K ops i ids len depth g.running h t.0 ∙ g.rest)
 
-pub gone_none : (vs ops : List ℕ) (i : ℕ) (ids : List SortId) (base : ℕ) (j : Joined) (K : Counts) → j ≡ Nothing K
-    → stored_at vs (Nothing K) ≡ go_on vs ops i ids base j
-unfolding go_on
-gone_none vs ops i ids base j K e = ap (go_on vs ops i ids base) (sym e)
+  module _ (h : i < length ops) (s : Step) (says : SaysStep (get_or ops i 0) s) where
+    pub fixed_pushed : (id : SortId) → s ≡ Fixed id → Going ws C ops vs K (i + 1) (set ids depth id) (depth + 1)
+    unfolding SaysStep
+    fixed_pushed id e =
+        let x = subst (SaysStep (get_or ops i 0)) e says in
+        let z : ◌≡◌ {A = SortId} (record { 0 = get_or ops i 0 }) id = λ j. record { 0 = sym x.1 j } in
+        subst (λ v. Going ws C ops vs K (i + 1) (set ids depth v) (depth + 1)) z
+        (record {
+          running = pushed vs K ops i ids len depth g.running h x.0;
+          rest = push_goes_on vs K ops i ids len depth g.running h x.0 ∙ g.rest;
+        })
 
-pub gone_full : (vs ops : List ℕ) (i : ℕ) (ids : List SortId) (base : ℕ) (j : Joined) → j ≡ Full → stored_at vs Full ≡ go_on vs ops i ids base j
-unfolding go_on
-gone_full vs ops i ids base j e = ap (go_on vs ops i ids base) (sym e)
+    -- a container step on an empty stack
+    pub container_missing : (o : ComplexSort) → s ≡ Container o → (l : ℕ) → TopTaken ids depth l None → RunLeft vs K None answer
+    unfolding SaysStep
+    container_missing o e l t =
+        let x = subst (SaysStep (get_or ops i 0)) e says in
+        none_left vs K tt (run_short vs K ops i ids len depth g.running h x.0 t.0 ∙ g.rest)
+
+    module _ (o : ComplexSort) (e : s ≡ Container o) (l : ℕ) (id : SortId) (t : TopTaken ids depth l (Some id)) where
+      container_says : (6 ≤ get_or ops i 0) × (get_or ops i 0 < 11) × (o ≡ op_of (get_or ops i 0 - 6))
+      unfolding SaysStep
+      container_says = subst (SaysStep (get_or ops i 0)) e says
+
+      not_empty : depth ≡ 0 → ⊥
+      not_empty z = omega (arith, t.0, z)
+
+      l_is : depth - 1 ≡ l
+      l_is = omega (arith, t.0)
+
+      top_is : id_at ids (depth - 1) ≡ id.0
+      top_is = ap (id_at ids) l_is ∙ sym t.1
+
+      pub container_part : id.0 < K.sorts
+      container_part =
+          subst (λ x. x < K.sorts) top_is
+          (last_below vs K ops i ids len depth g.running h container_says.0 container_says.1 not_empty)
+
+      module _ (us : List ℕ) where
+        interned_is : (j : Joined) → stored_at us j ≡ intern_at vs K.sorts K.entries (container o (look (trees vs K.sorts) id.0))
+            → stored_at us j ≡ intern_at vs K.sorts K.entries (container (op_of (get_or ops i 0 - 6)) (look (trees vs K.sorts) (id_at ids (depth - 1))))
+        interned_is j f =
+            f ∙ ap₂ (λ p x. intern_at vs K.sorts K.entries (container p (look (trees vs K.sorts) x))) container_says.2 (sym top_is)
+
+        pub container_pushed : (c : SortId) (L : Counts)
+            → stored_at us (At c L) ≡ intern_at vs K.sorts K.entries (container o (look (trees vs K.sorts) id.0))
+            → (ids' : List SortId) → ids' ≡ ids → Going ws C ops us L (i + 1) (set ids' l c) (l + 1)
+        container_pushed c L f ids' r =
+            subst (λ xs. Going ws C ops us L (i + 1) (set xs l c) (l + 1)) (sym r)
+            (subst (λ d. Going ws C ops us L (i + 1) (set ids d c) (d + 1)) l_is
+            (record {
+              running = container_next vs K ops i ids len depth g.running h container_says.0 container_says.1 not_empty us c L (interned_is (At c L) f);
+              rest = container_goes_on vs K ops i ids len depth g.running h container_says.0 container_says.1 not_empty us c L (interned_is (At c L) f) ∙ g.rest;
+            }))
+
+        pub container_has_no_room : (L : Counts) → stored_at us Full ≡ intern_at vs K.sorts K.entries (container o (look (trees vs K.sorts) id.0))
+            → RunLeft us L None answer
+        container_has_no_room L f =
+            none_left us L tt
+            (container_full vs K ops i ids len depth g.running h container_says.0 container_says.1 not_empty us (interned_is Full f) ∙ g.rest)
+
+    -- a function step on an empty stack
+    pub range_missing : (k : ℕ) → s ≡ Function k → (l : ℕ) → TopTaken ids depth l None → RunLeft vs K None answer
+    unfolding SaysStep
+    range_missing k e l t =
+        let x = subst (SaysStep (get_or ops i 0)) e says in
+        none_left vs K tt (run_short vs K ops i ids len depth g.running h (omega (arith, x.0)) t.0 ∙ g.rest)
+
+    module _ (k : ℕ) (e : s ≡ Function k) (l : ℕ) (id : SortId) (t : TopTaken ids depth l (Some id)) where
+      function_says : (11 ≤ get_or ops i 0) × (k ≡ arguments_of (get_or ops i 0))
+      unfolding SaysStep
+      function_says = subst (SaysStep (get_or ops i 0)) e says
+
+      has_range : depth ≡ 0 → ⊥
+      has_range z = omega (arith, t.0, z)
+
+      -- too few sorts below its range
+      pub arguments_missing : l < k → RunLeft vs K None answer
+      arguments_missing m =
+          none_left vs K tt (too_few vs K ops i ids len depth g.running h function_says.0 has_range k function_says.1 (omega (arith, t.0, m)) ∙ g.rest)
+
+      module _ (ids' : List SortId) (r : ids' ≡ ids) (domain : List SortId) (m : k ≤ l) (d : domain ≡ take k (drop (l - k) ids')) where
+        enough_below : k < depth
+        enough_below = omega (arith, t.0, m)
+
+        base_is : depth - 1 - k ≡ l - k
+        base_is = omega (arith, t.0)
+
+        range_is : id_at ids (depth - 1) ≡ id.0
+        range_is = let z : depth - 1 ≡ l = omega (arith, t.0) in ap (id_at ids) z ∙ sym t.1
+
+        domain_is : take k (drop (depth - 1 - k) (sort_numbers ids)) ≡ sort_numbers domain
+        domain_is =
+            ap (λ b. take k (drop b (sort_numbers ids))) base_is
+            ∙ (sym (take_sort_numbers k (drop (l - k) ids) ∙ ap (take k) (drop_sort_numbers (l - k) ids))
+            ∙ ap sort_numbers (sym (d ∙ ap (λ xs. take k (drop (l - k) xs)) r)))
+
+        domain_long : length domain ≡ k
+        domain_long =
+            ap length (d ∙ ap (λ xs. take k (drop (l - k) xs)) r)
+            ∙ length-take-le k (drop (l - k) ids) (omega (arith, length-drop (l - k) ids, len, t.0, m, g.running.room))
+
+        pub function_asked : Checked vs K.sorts K.entries × (id.0 < K.sorts) × (length domain ≤ 16) × AllBelow K.sorts (sort_numbers domain)
+        function_asked = (
+          g.running.checked,
+          subst (λ x. x < K.sorts) range_is
+              (range_below vs K ops i ids len depth g.running h function_says.0 has_range k function_says.1 enough_below),
+          omega (arith, domain_long, few_arguments vs K ops i ids len depth g.running h function_says.0 has_range k function_says.1 enough_below),
+          subst (AllBelow K.sorts) domain_is
+              (numbers_below vs K ops i ids len depth g.running h function_says.0 has_range k function_says.1 enough_below),
+        )
+
+        module _ (us : List ℕ) where
+          function_is_it : (j : Joined)
+              → stored_at us j ≡ intern_at vs K.sorts K.entries (function (look_all (trees vs K.sorts) (sort_numbers domain)) (look (trees vs K.sorts) id.0))
+              → stored_at us j ≡ intern_at vs K.sorts K.entries (function (look_all (trees vs K.sorts) (take k (drop (depth - 1 - k) (sort_numbers ids)))) (look (trees vs K.sorts) (id_at ids (depth - 1))))
+          function_is_it j f =
+              f ∙ ap₂ (λ xs x. intern_at vs K.sorts K.entries (function (look_all (trees vs K.sorts) xs) (look (trees vs K.sorts) x)))
+              (sym domain_is) (sym range_is)
+
+          pub function_pushed : (c : SortId) (L : Counts)
+              → stored_at us (At c L) ≡ intern_at vs K.sorts K.entries (function (look_all (trees vs K.sorts) (sort_numbers domain)) (look (trees vs K.sorts) id.0))
+              → Going ws C ops us L (i + 1) (set ids' (l - k) c) (l - k + 1)
+          function_pushed c L f =
+              subst (λ xs. Going ws C ops us L (i + 1) (set xs (l - k) c) (l - k + 1)) (sym r)
+              (subst (λ b. Going ws C ops us L (i + 1) (set ids b c) (b + 1)) base_is
+              (record {
+                running = function_next vs K ops i ids len depth g.running h function_says.0 has_range k function_says.1 enough_below us c L (function_is_it (At c L) f);
+                rest = function_goes_on vs K ops i ids len depth g.running h function_says.0 has_range k function_says.1 enough_below us c L (function_is_it (At c L) f) ∙ g.rest;
+              }))
+
+          pub function_has_no_room : (L : Counts)
+              → stored_at us Full ≡ intern_at vs K.sorts K.entries (function (look_all (trees vs K.sorts) (sort_numbers domain)) (look (trees vs K.sorts) id.0))
+              → RunLeft us L None answer
+          function_has_no_room L f =
+              none_left us L tt
+              (function_full vs K ops i ids len depth g.running h function_says.0 has_range k function_says.1 enough_below us (function_is_it Full f) ∙ g.rest)

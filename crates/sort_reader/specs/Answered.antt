@@ -1,17 +1,15 @@
 -- What the entry read answers and leaves, whatever it is given.
 use Rattle.resolved_sort.specs.declared.Refusal.{Refusal}
 use Rattle.std.specs.Prelude.{◌≡◌, List, [], ℕ, ◌<◌, ◌≤◌, length, drop, Ok, Err}
-use Rattle.std.proofs.Math.Option.{none, some}
 use Rattle.resolved_sort.specs.declared.Counts.{Counts}
 use Rattle.resolved_sort.specs.declared.SortId.{SortId}
 use Rattle.resolved_sort.specs.Tree.{Tree}
 use Rattle.resolved_sort.specs.Checks.{first_failing}
 use Rattle.resolved_sort.specs.Entries.{tree_at}
 use Rattle.entry_answers.specs.SortsLeft.{SortsGrew, SortsPutBack, RanOut}
-use Rattle.sort_text.specs.declared.Read.{Read}
-use Rattle.sort_text.specs.declared.Read.TheVariants.{Refused, NotASort, Sort, NoRoom}
+use Rattle.sort_text.specs.declared.Unread.TheVariants.{Refused, NotASort, NoRoom}
 use Rattle.sort_text.specs.Parse.{parsed, stuck, line}
-use Rattle.sort_text.specs.Reading.{read_checks}
+use Rattle.sort_text.specs.Reading.{read_checks, ReadAnswer}
 
 module _ (ws : List ℕ) (n e : ℕ) (bs : List ℕ) where
   -- A refusal: the first failing check, and the words as given.
@@ -41,8 +39,8 @@ module _ (ws : List ℕ) (n e : ℕ) (bs : List ℕ) where
     pub ran_out : RanOut ws n e
     pub put_back : SortsPutBack ws n e vs
 
-  abbrev pub ReadSays : List ℕ → Read → Type 0
-  ReadSays vs (Refused c) = ReadRefused vs c
-  ReadSays vs (NotASort at) = ReadStuck vs at
-  ReadSays vs (Sort s k) = ReadSort vs s k
-  ReadSays vs NoRoom = ReadNoRoom vs
+  abbrev pub ReadSays : List ℕ → ReadAnswer → Type 0
+  ReadSays vs (Ok (s, k)) = ReadSort vs s k
+  ReadSays vs (Err (Refused c)) = ReadRefused vs c
+  ReadSays vs (Err (NotASort at)) = ReadStuck vs at
+  ReadSays vs (Err NoRoom) = ReadNoRoom vs

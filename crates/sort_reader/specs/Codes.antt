@@ -1,6 +1,6 @@
 -- The number and the values of each answer of read: document 01's number (`code_read`), and for each case the values
 -- that come with it.
-use Rattle.std.specs.Prelude.{◌≡◌, ◌⊎◌, List, [], ◌∷◌, ℕ}
+use Rattle.std.specs.Prelude.{◌≡◌, ◌⊎◌, List, [], ◌∷◌, ℕ, Ok, Err}
 use Rattle.resolved_sort.specs.declared.Refusal.TheVariants.{LongLine}
 use Rattle.resolved_sort.specs.declared.Joined.{Joined}
 use Rattle.resolved_sort.specs.declared.Joined.TheVariants.{At, Nothing, Full}
@@ -8,27 +8,26 @@ use Rattle.resolved_sort.specs.Storage.{sorts_of}
 use Rattle.resolved_sort.specs.Checks.{Numbered}
 use Rattle.resolved_sort.specs.Entries.{stored}
 use Rattle.entry_answers.specs.Packing.{CodeAndValues, coded}
-use Rattle.sort_text.specs.declared.Read.{Read}
-use Rattle.sort_text.specs.declared.Read.TheVariants.{Refused, NotASort, Sort, NoRoom}
+use Rattle.sort_text.specs.declared.Unread.TheVariants.{Refused, NotASort, NoRoom}
 use Rattle.sort_text.specs.Parse.{Parsed, parsed, stuck}
-use Rattle.sort_text.specs.Reading.{store, code_read}
+use Rattle.sort_text.specs.Reading.{store, ReadAnswer, code_read}
 
 -- where the unread end of the line begins; or the number of its sort, and the sorts and entries after the call
-abbrev pub read_values : Read → List ℕ
-read_values (Refused c) = []
-read_values (NotASort at) = at ∷ []
-read_values (Sort s k) = s.0 ∷ k.sorts ∷ k.entries ∷ []
-read_values NoRoom = []
+abbrev pub read_values : ReadAnswer → List ℕ
+read_values (Ok (s, k)) = s.0 ∷ k.sorts ∷ k.entries ∷ []
+read_values (Err (Refused c)) = []
+read_values (Err (NotASort at)) = at ∷ []
+read_values (Err NoRoom) = []
 
-abbrev pub coded_read : Read → CodeAndValues
+abbrev pub coded_read : ReadAnswer → CodeAndValues
 coded_read r = coded (code_read r) (read_values r)
 
 -- a refusal has the number of a check: 1 to 14, or 19 for a line that is too long
-abbrev pub ReadWithin : Read → Type 0
-ReadWithin (Refused c) = Numbered c ⊎ (c ≡ LongLine)
-ReadWithin (NotASort at) = Unit {0}
-ReadWithin (Sort s k) = Unit {0}
-ReadWithin NoRoom = Unit {0}
+abbrev pub ReadWithin : ReadAnswer → Type 0
+ReadWithin (Ok sort) = Unit {0}
+ReadWithin (Err (Refused c)) = Numbered c ⊎ (c ≡ LongLine)
+ReadWithin (Err (NotASort at)) = Unit {0}
+ReadWithin (Err NoRoom) = Unit {0}
 
 abbrev pub store_code : Joined → ℕ
 store_code (At s k) = 0

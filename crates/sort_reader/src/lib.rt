@@ -2,142 +2,114 @@
 // the entry tests all it is lent, recognises the line, and only then stores.
 #![tactic(auto)]
 
-ghost use Rattle.std.specs.Prelude.{◌≡◌, ◌+◌, ◌-◌, ◌<◌, ◌≤◌, length, drop, take, get_or};
-ghost use Rattle.resolved_sort.specs.Rows.{stored_at};
-ghost use Rattle.resolved_sort.specs.Inner.Storage.{sort_numbers};
-ghost use Rattle.sort_text.specs.Postfix.{op_of};
-ghost use Rattle.sort_reader.specs.Inner.Run.{max_stack, run_at, Running, GoesOn, go_on, arguments_of};
-ghost use Rattle.resolved_sort.specs.Storage.{max_sorts, max_entries, full_length, max_arguments};
+ghost use Rattle.std.specs.Prelude.{MatchOption, OnErr, ◌≡◌, ◌+◌, ◌-◌, ◌<◌, ◌≤◌, [], set, take, drop};
+ghost use Rattle.sort_reader.specs.Inner.Run.{max_stack, run_at, Running, SaysStep, TopTaken, RunLeft};
 ghost use Rattle.resolved_sort.specs.Checks.{first_failing};
 ghost use Rattle.sort_text.specs.Parse.{line as line_of};
-ghost use Rattle.sort_text.specs.Reading.{read_checks, read_left, read_as_of, reading};
-ghost use Rattle.sort_reader.specs.Inner.Tested.{Passes, kept_or_no_room};
+ghost use Rattle.sort_text.specs.Reading.{read_checks, read_left, read_at, read_as_of, reading};
+ghost use Rattle.sort_reader.specs.Inner.Tested.{Passes};
 
-use resolved_sort::{ARGUMENT_WORDS, ComplexSort, Counts, Joined, Refusal, SORT_WORDS, SortId};
+use resolved_sort::{ComplexSort, Counts, Refusal, SORT_WORDS, SortId};
 use sort_checks::test_sorts;
-use sort_interner::{function, generic, give_back};
-use sort_recogniser::{Stuck, recognise};
-use sort_text::{FUNCTION_STEP, MAX_LINE, Read};
+use sort_interner::SortInterner;
+use sort_recogniser::recognise;
+use sort_text::{FUNCTION_STEP, MAX_LINE, Unread};
 
-// The operator of a container step.
-fn operator(step: u8) -> ComplexSort
-    requires { (6 ≤ step) × (step < 11) }
-    ensures { result ≡ op_of (step - 6) }
-{
-    match step {
-        6 => ComplexSort::List,
-        7 => ComplexSort::Set,
-        8 => ComplexSort::FSet,
-        9 => ComplexSort::Bag,
-        _ => ComplexSort::FBag,
+// A step of a sort, parts first: one of the fixed six sorts; a container over the sort on top of the stack; or a function
+// of so many sorts below the one on top, its range.
+#[derive(Clone, Copy, Debug, PartialEq, Eq)]
+enum Step {
+    Fixed(SortId),
+    Container(ComplexSort),
+    Function(usize),
+}
+
+impl From<u8> for Step {
+    ghost from_gives = { λ byte step. SaysStep byte step };
+
+    #[tactic(auto, unfolding(crate::specs::Inner::Run::SaysStep))]
+    fn from(byte: u8) -> Self {
+        match byte {
+            0..=5 => Step::Fixed(SortId(u16::from(byte))),
+            6 => Step::Container(ComplexSort::List),
+            7 => Step::Container(ComplexSort::Set),
+            8 => Step::Container(ComplexSort::FSet),
+            9 => Step::Container(ComplexSort::Bag),
+            10 => Step::Container(ComplexSort::FBag),
+            _ => Step::Function(usize::from(byte.saturating_sub(FUNCTION_STEP))),
+        }
     }
 }
 
-// The k numbers of a stack from base on.
-fn arguments(ids: [SortId; MAX_STACK], base: usize, k: u16) -> [SortId; ARGUMENT_WORDS]
-    requires { (k ≤ max_arguments) × (base + k ≤ max_stack) }
-    ensures { take k (sort_numbers result) ≡ take k (drop base (sort_numbers ids)) }
-{
-    let mut out = [SortId(0); ARGUMENT_WORDS];
-    let count = k as usize;
-    out[..count].copy_from_slice(&ids[base..base + count]);
-    out
-}
-
-// How many arguments a function step takes.
-fn argument_count(step: u8) -> u16
-    ensures { result ≡ arguments_of step }
-{
-    u16::from(step.saturating_sub(FUNCTION_STEP))
-}
-
-// Carries out the steps from the i-th on, and answers the sort that is then on top of the stack.
-#[cycle(go_on_run_from_run_function)]
-fn run_from(
-    sorts: &mut [u16],
-    counts: Counts,
-    steps: &[u8],
-    i: usize,
+// The sorts that steps have made and none has taken yet, the last one on top.
+// kept: an array with a depth, since no memory is allocated.
+#[derive(Clone, Copy)]
+struct Stack {
     ids: [SortId; MAX_STACK],
     depth: usize,
-) -> Joined
-    requires { Running sorts.old counts.sorts counts.entries steps.now i ids depth }
-    ensures { stored_at sorts.new result
-        ≡ run_at sorts.old counts.sorts counts.entries (drop i steps.now) ids depth }
-{
-    if steps.len() <= i {
-        if depth == 0 {
-            return Joined::Nothing(counts);
-        }
-        return Joined::At(ids[depth - 1], counts);
-    }
-    let step = steps[i];
-    if step < 6 {
-        let mut next = ids;
-        next[depth] = SortId(step as u16);
-        return run_from(sorts, counts, steps, i + 1, next, depth + 1);
-    }
-    if depth == 0 {
-        return Joined::Nothing(counts);
-    }
-    if step < 11 {
-        let made = generic(sorts, counts, operator(step), ids[depth - 1]);
-        return go_on(sorts, made, steps, i, ids, depth - 1);
-    }
-    run_function(sorts, counts, steps, i, ids, depth, step)
 }
 
-// A function step: the numbers below the top of the stack are its arguments, the top its range.
-#[cycle(go_on_run_from_run_function)]
-fn run_function(
-    sorts: &mut [u16],
-    counts: Counts,
-    steps: &[u8],
-    i: usize,
-    ids: [SortId; MAX_STACK],
-    depth: usize,
-    step: u8,
-) -> Joined
-    requires { Running sorts.old counts.sorts counts.entries steps.now i ids depth
-        × (i < length steps.now)
-        × (step ≡ get_or steps.now i 0)
-        × (11 ≤ step)
-        × (0 < depth) }
-    ensures { stored_at sorts.new result
-        ≡ run_at sorts.old counts.sorts counts.entries (drop i steps.now) ids depth }
-{
-    let k = argument_count(step);
-    if depth <= (k as usize) {
-        return Joined::Nothing(counts);
+impl Stack {
+    // One more sort on top.
+    fn push(&mut self, id: SortId)
+        requires { self.old.depth < max_stack }
+        ensures ids { self.new.ids ≡ set self.old.ids self.old.depth id }
+        ensures depth { self.new.depth ≡ self.old.depth + 1 }
+    {
+        self.ids[self.depth] = id;
+        self.depth += 1;
     }
-    let base = depth - 1 - (k as usize);
-    let args = arguments(ids, base, k);
-    let made = function(sorts, counts, args, k, ids[depth - 1]);
-    go_on(sorts, made, steps, i, ids, base)
+
+    // Takes the sort on top.
+    fn pop(&mut self) -> Option<SortId>
+        requires { self.old.depth ≤ max_stack }
+        ensures ids { self.new.ids ≡ self.old.ids }
+        ensures top { TopTaken self.old.ids self.old.depth self.new.depth result }
+    {
+        self.depth = self.depth.checked_sub(1)?;
+        Some(self.ids[self.depth])
+    }
+
+    // The last count sorts, the deepest first.
+    fn last(&self, count: usize) -> Option<&[SortId]>
+        requires { self.now.depth ≤ max_stack }
+        ensures { MatchOption result (self.now.depth < count)
+            (λ last. (count ≤ self.now.depth)
+            × (last.now ≡ take count (drop (self.now.depth - count) self.now.ids))) }
+    {
+        let base = self.depth.checked_sub(count)?;
+        Some(&self.ids[base..self.depth])
+    }
 }
 
-// Goes on with a sort that was made on top of the stack at base, if one was.
-#[cycle(go_on_run_from_run_function)]
-fn go_on(
-    sorts: &mut [u16],
-    made: Joined,
-    steps: &[u8],
-    i: usize,
-    ids: [SortId; MAX_STACK],
-    base: usize,
-) -> Joined
-    requires { GoesOn sorts.old steps.now i ids base made × (base < max_stack) × (i < length steps.now) }
-    ensures { stored_at sorts.new result ≡ go_on sorts.old steps.now i ids base made }
+// Carries out the steps of a sort; the sort that is then on top of the stack. None where room ends, or where the stack has
+// not what a step takes.
+fn run(sorts: &mut SortInterner, steps: &[u8]) -> Option<SortId>
+    requires { Running sorts.old.words.now sorts.old.counts.sorts sorts.old.counts.entries steps.now 0 [] 0 }
+    ensures same_reference { sorts.new.words.ghost_name ≡ sorts.old.words.ghost_name }
+    ensures left { RunLeft sorts.new.words.now sorts.new.counts result
+        (run_at sorts.old.words.now sorts.old.counts.sorts sorts.old.counts.entries steps.now [] 0) }
 {
-    match made {
-        Joined::At(id, counts) => {
-            let mut next = ids;
-            next[base] = id;
-            run_from(sorts, counts, steps, i + 1, next, base + 1)
+    let mut stack = Stack {
+        ids: [SortId(0); MAX_STACK],
+        depth: 0,
+    };
+    for &step in steps {
+        match Step::from(step) {
+            Step::Fixed(id) => stack.push(id),
+            Step::Container(op) => {
+                let subsort = stack.pop()?;
+                stack.push(sorts.generic(op, subsort).ok()?);
+            }
+            Step::Function(count) => {
+                let range = stack.pop()?;
+                let id = sorts.function(stack.last(count)?, range).ok()?;
+                stack.depth -= count;
+                stack.push(id);
+            }
         }
-        Joined::Nothing(counts) => Joined::Nothing(counts),
-        Joined::Full => Joined::Full,
     }
+    stack.pop()
 }
 
 // Checks 1 to 4, 14 and 19: the first that fails.
@@ -160,52 +132,47 @@ fn test_read(
     Ok(())
 }
 
-// What was stored stays; where room ended it is given back.
-#[tactic(auto, unfolding(crate::specs::Inner::Tested::kept_or_no_room))]
-fn kept_or_no_room(sorts: &mut [u16], sort_count: usize, entry_count: usize, stored: Joined) -> Read
-    requires { (sort_count ≤ max_sorts) × (entry_count ≤ max_entries) × (full_length ≤ length sorts.old) }
-    ensures { read_left sorts.new result ≡ kept_or_no_room sorts.old sort_count entry_count stored }
-{
-    match stored {
-        Joined::At(id, counts) => Read::Sort(id, counts),
-        Joined::Nothing(_) | Joined::Full => {
-            give_back(sorts, sort_count, entry_count);
-            Read::NoRoom
-        }
-    }
-}
-
-// A line that passed the tests.
-pub fn read_line(sorts: &mut [u16], sort_count: usize, entry_count: usize, line: &[u8]) -> Read
-    requires { Passes sorts.old sort_count entry_count line.now }
-    ensures { read_left sorts.new result
-        ≡ read_as_of sorts.old sort_count entry_count line.now
+// A line that passed the tests. What was stored stays; where room ended it is given back.
+pub fn read_line(sorts: &mut SortInterner, line: &[u8]) -> Result<SortId, Unread>
+    requires { Passes sorts.old.words.now sorts.old.counts.sorts sorts.old.counts.entries line.now }
+    ensures same_reference { sorts.new.words.ghost_name ≡ sorts.old.words.ghost_name }
+    ensures counts { OnErr result (sorts.new.counts ≡ sorts.old.counts) }
+    ensures read { read_at sorts.new.words.now sorts.new.counts result
+        ≡ read_as_of sorts.old.words.now sorts.old.counts.sorts sorts.old.counts.entries line.now
         (line_of line.now) }
 {
+    let given = sorts.counts;
     let mut steps = [0u8; MAX_LINE];
-    match recognise(line, &mut steps) {
-        Err(Stuck(at)) => Read::NotASort(at),
-        Ok(count) => {
-            let counts = Counts {
-                sorts: sort_count as u16,
-                entries: entry_count as u16,
-            };
-            let stored = run_from(sorts, counts, &steps[..count], 0, [SortId(0); MAX_STACK], 0);
-            kept_or_no_room(sorts, sort_count, entry_count, stored)
-        }
-    }
+    let count = recognise(line, &mut steps)?;
+    let Some(id) = run(sorts, &steps[..count]) else {
+        sorts.give_back(given);
+        return Err(Unread::NoRoom);
+    };
+    Ok(id)
 }
 
 // The sort of a line, stored: parts first, arguments left to right, then the range, then the whole.
 // Ruled out: a sort for a line of 201 bytes; sorts of a line that is none left in the storage.
-pub fn read(sorts: &mut [u16], sort_count: usize, entry_count: usize, line: &[u8]) -> Read
+pub fn read(
+    sorts: &mut [u16],
+    sort_count: usize,
+    entry_count: usize,
+    line: &[u8],
+) -> Result<(SortId, Counts), Unread>
     ensures { read_left sorts.new result
         ≡ reading sorts.old sort_count entry_count line.now }
 {
-    match test_read(sorts, sort_count, entry_count, line) {
-        Err(refusal) => Read::Refused(refusal),
-        Ok(()) => read_line(sorts, sort_count, entry_count, line),
-    }
+    test_read(sorts, sort_count, entry_count, line)?;
+    let counts = Counts {
+        sorts: sort_count as u16,
+        entries: entry_count as u16,
+    };
+    let mut interner = SortInterner {
+        words: sorts,
+        counts,
+    };
+    let id = read_line(&mut interner, line)?;
+    Ok((id, interner.counts))
 }
 
 // How many sorts the stack holds: more than the steps of a line can put there.

@@ -6,6 +6,7 @@ ghost use Rattle.std.specs.Prelude.{OnOk, ◌≡◌, ◌+◌, ◌<◌, ◌≤◌
 ghost use Rattle.resolved_sort.specs.Tree.{primitive};
 ghost use Rattle.resolved_sort.specs.Storage.{kind_flat, kind_op, max_arguments};
 ghost use Rattle.sort_text.specs.Tokens.{is_letter, skip, next};
+ghost use Rattle.sort_text.specs.declared.Unread.TheVariants.{NotASort};
 ghost use Rattle.sort_lexer.specs.Inner.Lexeme.{lexeme_of};
 ghost use Rattle.sort_recogniser.specs.Inner.Says.{Met, HasRoom, Read, ReadRest, same_but_place};
 ghost use Rattle.sort_recogniser.specs.Inner.Cleared.{SaysLine, LineRecognised};
@@ -13,13 +14,23 @@ ghost use Rattle.sort_text.specs.Parse as Parse;
 
 use resolved_sort::{ComplexSort, Sort};
 use sort_lexer::{Lexeme, Reader, Token, Word};
-use sort_text::{FUNCTION_STEP, MOST_ARGUMENTS};
+use sort_text::{FUNCTION_STEP, MOST_ARGUMENTS, Unread};
 
 // A line is no sort: where its first token stands that cannot follow.
 #[derive(Clone, Copy, Debug, PartialEq, Eq)]
 pub struct Stuck(pub usize);
 
+impl From<Stuck> for Unread {
+    ghost from_gives = { λ stuck e. e ≡ NotASort stuck.0 };
+
+    fn from(stuck: Stuck) -> Self {
+        Unread::NotASort(stuck.0)
+    }
+}
+
 // The step of a basic sort.
+// kept: steps are written as bytes, since behind those of a line the buffer is to be zero; they are told apart where
+// they are carried out.
 #[tactic(auto, unfolding(resolved_sort::specs::Storage::kind_flat))]
 fn step_of_sort(sort: Sort) -> u8
     ensures { result ≡ kind_flat (primitive sort) }
@@ -57,7 +68,7 @@ struct Recogniser<'a> {
 }
 
 impl<'a> Recogniser<'a> {
-    // The next token, with what reads it.
+    // A reader of the line at the position.
     fn reader(&self) -> Reader<'_>
         ensures { (result.line.now ≡ self.now.line.now) × (result.at ≡ self.now.at) }
     {

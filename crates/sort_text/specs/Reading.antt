@@ -55,6 +55,11 @@ pub record ReadLeft : Type 0 where
 abbrev pub read_left : List ℕ → ReadAnswer → ReadLeft
 read_left ws r = record { words = ws; answer = r }
 
+-- The words and counts that reading a line has left, and its answer.
+abbrev pub read_at : List ℕ → Counts → Result SortId Unread → ReadLeft
+read_at ws k (Ok s) = read_left ws (Ok (s, k))
+read_at ws k (Err u) = read_left ws (Err u)
+
 unfoldable pub stored_by : List ℕ → ℕ → ℕ → Stored → Joined → ReadLeft
 stored_by ws n e r (At s k) = read_left r.words (Ok (s, k))
 stored_by ws n e r (Nothing k) = read_left (given_back n e ws) (Err NoRoom)

@@ -1,8 +1,7 @@
 -- The checks of writing, as the tests find the first that fails, and what it means that none fails. Assumes nothing.
-use mathlib.Core.Path.{◌≡◌, refl, sym, ◌∙◌, ap}
+use mathlib.Core.Path.{◌≡◌, refl, sym, ◌∙◌}
 use mathlib.Core.Bool.{Bool, true, false, cond, ◌&&◌, and-eq-true_iff}
 use mathlib.Core.List.{List, [], ◌∷◌, ◌++◌}
-use mathlib.Core.Option.{Option, none, some}
 use Prim.Native.Nat.{ℕ, ◌-◌, ◌*◌, ◌<◌, ◌≤◌}
 use native.Mathlib.Omega.{arith}
 use native.Mathlib.Decide.{dec_le}
@@ -18,7 +17,6 @@ use Rattle.resolved_sort.specs.Checks.{Check, first_failing, sort_checks, within
 use Rattle.resolved_sort.specs.Entries.{refused_or, tree_at}
 use Rattle.resolved_sort.specs.Growing.{ListFine}
 use Rattle.resolved_sort.proofs.FirstFailing.{first_fails, first_passes, append_fails, append_passes, cons_passes}
-use Rattle.sort_text.specs.declared.Written.TheVariants.{Refused as NotWritten, Text}
 use Rattle.sort_text.specs.Text.{writable, text}
 use Rattle.sort_text.specs.Writing.{write_checks, write_left, writing}
 use Rattle.sort_writer.specs.Inner.Sizes.{most_size, capped, size_if, sized, sizes_to}
@@ -158,7 +156,7 @@ module _ (ws : List ℕ) (n e a : ℕ) (out : List ℕ) where
 
 -- what the entry answers
 module _ (ws : List ℕ) (n e a : ℕ) (out : List ℕ) (t : Tested) (et : t ≡ first_failing (write_checks ws n e a out)) where
-  pub refused : (c : Refusal) → t ≡ Err c → write_left out (NotWritten c) ≡ writing ws n e a out
+  pub refused : (c : Refusal) → t ≡ Err c → write_left out (Err c) ≡ writing ws n e a out
   unfolding writing
   refused c r = rw (sym et ∙ r)
 
@@ -184,18 +182,18 @@ module _ (ws : List ℕ) (n e a : ℕ) (out : List ℕ) (t : Tested) (et : t ≡
           room = omega (arith, leb-true (length (text (tree_at ws n a))) (length out) r.1);
         }
 
-    pub answered : {left : List ℕ} {r : ℕ} → Put out 0 (text (tree_at ws n a)) left r → write_left left (Text r) ≡ writing ws n e a out
+    pub answered : {left : List ℕ} {r : ℕ} → Put out 0 (text (tree_at ws n a)) left r → write_left left (Ok r) ≡ writing ws n e a out
     unfolding writing
     answered h = rw none_fails (put_front (omega (arith, has_room.room)) h)
 
 -- a text that was written fits the buffer, so its length is below 2^63 and no packed refusal
-pub text_fits : (ws : List ℕ) (n e a : ℕ) (out : List ℕ) (l : ℕ) → (writing ws n e a out).answer ≡ Text l → l ≤ length out
+pub text_fits : (ws : List ℕ) (n e a : ℕ) (out : List ℕ) (l : ℕ) → (writing ws n e a out).answer ≡ Ok l → l ≤ length out
 unfolding writing
 text_fits ws n e a out l h = go (first_failing (write_checks ws n e a out)) refl h
   where
     go : (x : Tested) → first_failing (write_checks ws n e a out) ≡ x
-        → (refused_or x (λ c. write_left out (NotWritten c)) (write_left (text (tree_at ws n a) ++ drop
-        (length (text (tree_at ws n a))) out) (Text (length (text (tree_at ws n a)))))).answer ≡ Text l
+        → (refused_or x (λ c. write_left out (Err c)) (write_left (text (tree_at ws n a) ++ drop
+        (length (text (tree_at ws n a))) out) (Ok (length (text (tree_at ws n a)))))).answer ≡ Ok l
         → l ≤ length out
     go (Ok u) e₁ q = let z : length (text (tree_at ws n a)) ≡ l = cc in omega (arith, (has_room ws n e a out (Ok tt) (sym e₁) refl).room)
     go (Err c) e₁ q = let z : ◌≡◌ {A = ℕ} 0 1 = cc in absurd (omega arith)

@@ -4,34 +4,31 @@
 use mathlib.Core.Path.{◌≡◌, refl, ap}
 use mathlib.Core.Bool.{and-eq-true_iff}
 use mathlib.Core.List.{List, ◌++◌}
-use mathlib.Core.Option.{Option, none, some}
 use Prim.Native.Nat.{ℕ, ◌<◌, ◌≤◌}
 use native.Mathlib.Omega.{arith}
 use lib.ListN.{length, drop}
 use lib.Dec.{leb}
 use borrow.Author.Tests.{leb-true}
 use Rattle.resolved_sort.specs.declared.Refusal.{Refusal}
-use Rattle.std.specs.Prelude.{Ok, Err}
+use Rattle.std.specs.Prelude.{Result, Ok, Err}
 use Rattle.words.specs.Bits.{bit63}
 use Rattle.resolved_sort.specs.Checks.{first_failing, sort_checks, at_ceiling, Numbered, Tested, code_of}
-use Rattle.resolved_sort.specs.Entries.{refused_or, tree_at}
+use Rattle.resolved_sort.specs.Entries.{refused_or, tree_at, code_answered}
 use Rattle.resolved_sort.proofs.FirstFailing.{cons_passes}
 use Rattle.resolved_sort.proofs.FailingNumber.{failing_number}
 use Rattle.entry_answers.proofs.Refusals.{codes_tell}
-use Rattle.sort_text.specs.declared.Written.{Written}
-use Rattle.sort_text.specs.declared.Written.TheVariants.{Refused, Text}
 use Rattle.sort_text.specs.Text.{text}
-use Rattle.sort_text.specs.Writing.{write_checks, code_written, write_left, writing}
+use Rattle.sort_text.specs.Writing.{write_checks, write_left, writing}
 use Rattle.sort_writer.specs.Packed.{pack_written, WrittenWithin}
 
 by_check : (x : Tested) (out bs : List ℕ) (m : ℕ)
-    → code_written (refused_or x (λ c. write_left out (Refused c)) (write_left bs (Text m))).answer ≡ refused_or x
+    → code_answered (refused_or x (λ c. write_left out (Err c)) (write_left bs (Ok m))).answer ≡ refused_or x
     code_of 0
-unfolding code_written
+unfolding code_answered
 by_check (Ok u) out bs m = refl
 by_check (Err c) out bs m = refl
 
-pub code_of_written : (ws : List ℕ) (n e a : ℕ) (out : List ℕ) → code_written (writing ws n e a out).answer ≡
+pub code_of_written : (ws : List ℕ) (n e a : ℕ) (out : List ℕ) → code_answered (writing ws n e a out).answer ≡
     refused_or (first_failing (write_checks ws n e a out)) code_of 0
 unfolding writing
 code_of_written ws n e a out = by_check (first_failing (write_checks ws n e a out)) out _ _
@@ -70,15 +67,15 @@ unfolding writing
 written_within ws n e a out l = go (first_failing (write_checks ws n e a out)) refl
   where
     go : (x : Tested) → first_failing (write_checks ws n e a out) ≡ x
-        → WrittenWithin (refused_or x (λ c. write_left out (Refused c))
-        (write_left (text (tree_at ws n a) ++ drop (length (text (tree_at ws n a))) out) (Text (length (text (tree_at ws n a)))))).answer
+        → WrittenWithin (refused_or x (λ c. write_left out (Err c))
+        (write_left (text (tree_at ws n a) ++ drop (length (text (tree_at ws n a))) out) (Ok (length (text (tree_at ws n a)))))).answer
     go (Ok u) f = omega (arith, l, in_buffer ws n e a out f)
     go (Err c) f = refused_by_number ws n e a out c f
 
 -- the packed answer tells the answers apart
-pub written_tells : (r s : Written) → WrittenWithin r → WrittenWithin s → pack_written r ≡ pack_written s → r ≡ s
-unfolding code_written
-written_tells (Refused c) (Refused d) x y p = ap Refused (codes_tell c d (omega (arith, p)))
-written_tells (Refused c) (Text m) x y p = absurd (omega (arith, p, y))
-written_tells (Text n) (Refused d) x y p = absurd (omega (arith, p, x))
-written_tells (Text n) (Text m) x y p = ap Text p
+pub written_tells : (r s : Result ℕ Refusal) → WrittenWithin r → WrittenWithin s → pack_written r ≡ pack_written s → r ≡ s
+unfolding code_answered
+written_tells (Err c) (Err d) x y p = ap Err (codes_tell c d (omega (arith, p)))
+written_tells (Err c) (Ok m) x y p = absurd (omega (arith, p, y))
+written_tells (Ok n) (Err d) x y p = absurd (omega (arith, p, x))
+written_tells (Ok n) (Ok m) x y p = ap Ok p

@@ -6,13 +6,13 @@ use native.Mathlib.Omega.{arith}
 use native.Mathlib.Nat.{zero-add}
 use lib.ListN.{length, drop}
 use lib.Seq.{sets-eq}
-use Rattle.sort_text.specs.declared.Written.TheVariants.{Text}
+use Rattle.std.specs.Prelude.{Ok}
 use Rattle.sort_text.specs.Writing.{write_left}
 use Rattle.text_out.specs.Put.{Put}
 
 -- bytes put at the front: what is left of the buffer stands behind them
 pub put_front : {out bs left : List ℕ} {r : ℕ} → length bs ≤ length out → Put out 0 bs left r
-    → write_left left (Text r) ≡ write_left (bs ++ drop (length bs) out) (Text (length bs))
+    → write_left left (Ok r) ≡ write_left (bs ++ drop (length bs) out) (Ok (length bs))
 put_front {out} {bs} l h =
-    ap₂ (λ (x : List ℕ) (i : ℕ). write_left x (Text i))
+    ap₂ (λ (x : List ℕ) (i : ℕ). write_left x (Ok i))
     (h.bytes ∙ (sets-eq bs out 0 (omega (arith, l)) ∙ ap (λ (i : ℕ). bs ++ drop i out) (zero-add (length bs)))) (h.behind ∙ zero-add (length bs))

@@ -2,27 +2,23 @@
 // that shared parts are looked at once; then the text is put into the lent buffer, or nothing is.
 #![tactic(auto)]
 
-ghost use Rattle.std.specs.Prelude.{◌≡◌, ◌++◌, ◌+◌, ◌<◌, ◌≤◌, length, get_or, replicate};
+ghost use Rattle.std.specs.Prelude.{◌≡◌, ◌+◌, ◌<◌, ◌≤◌, length, get_or, replicate};
 ghost use Rattle.resolved_sort.specs.Storage.{max_sorts, entry_at, entries_of};
-ghost use Rattle.resolved_sort.specs.Inner.Storage.{args_at};
 ghost use Rattle.resolved_sort.specs.Checks.{first_failing};
 ghost use Rattle.resolved_sort.specs.Entries.{tree_at};
-ghost use Rattle.sort_text.specs.Parse.{sort_word, op_word};
-ghost use Rattle.sort_text.specs.Text.{text, texts};
+ghost use Rattle.sort_text.specs.Text.{text};
 ghost use Rattle.sort_text.specs.Writing.{write_checks, write_left, writing};
 ghost use Rattle.sort_writer.specs.Inner.Sizes.{joined, run_size, row_size, sizes_to};
-ghost use Rattle.sort_writer.specs.Inner.Puts.{SortRoom, RunRoom};
+ghost use Rattle.sort_writer.specs.Inner.Puts.{SortRoom};
 ghost use Rattle.text_out.specs.Put.{Put};
-ghost use Rattle.text_out.specs.Quoted.{bytes_of};
+ghost use Rattle.text_out.specs.Outs.{then_put};
 ghost use Rattle.sort_writer.specs.Packed.{pack_written, packed_write, pack_write_left};
 
-use resolved_sort::{
-    ComplexSort, Counts, ENTRIES_AT, MAX_SORTS, Refusal, ResolvedSort, SORT_WORDS, Sort, SortId,
-};
+use resolved_sort::{Counts, ENTRIES_AT, MAX_SORTS, Refusal, ResolvedSort, SORT_WORDS, SortId};
 use sort_checks::test_sorts;
-use sort_interner::get;
-use sort_text::{Written, op_word, sort_word};
-use text_out::put_bytes;
+use sort_interner::{Sorts, get};
+use sort_text::{op_word, sort_word};
+use text_out::Out;
 use words::{BIT_63, word};
 
 // The size of two texts one after the other. It stops at 2^63, and where one has no text there is none.
@@ -44,6 +40,7 @@ pub fn size_at(sizes: &[usize], id: SortId) -> usize
 }
 
 // The size of the j-th argument of a run.
+// kept: sizes are found over the words, since 13 is tested before 14: a list whose storage is short is no Sorts yet.
 fn argument_size(sorts: &[u16], sizes: &[usize], start: u16, j: u16) -> usize
     ensures { result ≡ get_or sizes.now (entry_at sorts.now (start + j)) 0 }
 {
@@ -110,72 +107,44 @@ fn text_size(sorts: &[u16], n: usize, id: SortId) -> usize
     size_at(&sizes, id)
 }
 
-// The word of a basic sort.
-fn put_word(sort: Sort, out: &mut [u8], at: usize) -> usize
-    requires { at + length (sort_word sort) ≤ length out.old }
-    ensures { Put out.old at (sort_word sort) out.new result }
+// The text of a sort, as far as there is room.
+pub fn put_text(sorts: &Sorts, id: SortId, out: &mut Out)
+    requires { id.0 < sorts.now.counts.sorts }
+    ensures { out.new
+        ≡ then_put out.old (text (tree_at sorts.now.words.now sorts.now.counts.sorts id.0)) }
 {
-    put_bytes(sort_word(sort), out, at)
-}
-
-// The word of a container and the bracket after it.
-fn put_op(op: ComplexSort, out: &mut [u8], at: usize) -> usize
-    requires { at + length (op_word op ++ bytes_of "(") ≤ length out.old }
-    ensures { Put out.old at (op_word op ++ bytes_of "(") out.new result }
-{
-    let bracket = put_bytes(op_word(op), out, at);
-    put_bytes(b"(", out, bracket)
+    match sorts.get(id) {
+        ResolvedSort::Unit | ResolvedSort::Def(_) | ResolvedSort::TypeVar(_) => {}
+        ResolvedSort::Primitive(sort) => out.put_text(sort_word(sort)),
+        ResolvedSort::Container { op, subsort } => {
+            out.put_text(op_word(op));
+            out.put_byte(b'(');
+            put_text(sorts, subsort, out);
+            out.put_byte(b')');
+        }
+        ResolvedSort::Function { domain, range } => {
+            for k in 0..domain.count {
+                if 0 < k {
+                    out.put_text(b" # ");
+                }
+                put_text(sorts, sorts.argument(domain, k), out);
+            }
+            out.put_text(b" -> ");
+            put_text(sorts, range, out);
+        }
+    }
 }
 
 // The text of a sort of a checked list that has room from a place on; the place behind it.
-#[cycle(put_arguments_put_sort)]
-pub fn put_sort(sorts: &[u16], counts: Counts, id: SortId, out: &mut [u8], at: usize) -> usize
-    requires { SortRoom sorts.now counts.sorts counts.entries id.0 out.old at }
-    ensures { Put out.old at (text (tree_at sorts.now counts.sorts id.0))
+pub fn put_sort(words: &[u16], counts: Counts, id: SortId, out: &mut [u8], at: usize) -> usize
+    requires { SortRoom words.now counts.sorts counts.entries id.0 out.old at }
+    ensures { Put out.old at (text (tree_at words.now counts.sorts id.0))
         out.new result }
 {
-    match get(sorts, id) {
-        ResolvedSort::Unit => at,
-        ResolvedSort::Primitive(sort) => put_word(sort, out, at),
-        ResolvedSort::Container { op, subsort } => {
-            let inside = put_op(op, out, at);
-            let bracket = put_sort(sorts, counts, subsort, out, inside);
-            put_bytes(b")", out, bracket)
-        }
-        ResolvedSort::Function { domain, range } => {
-            let arrow = put_arguments(sorts, counts, domain.start, domain.count, out, at);
-            let result = put_bytes(b" -> ", out, arrow);
-            put_sort(sorts, counts, range, out, result)
-        }
-        ResolvedSort::Def(_) => at,
-        ResolvedSort::TypeVar(_) => at,
-    }
-}
-
-// The texts of a run of arguments with ` # ` between them, left to right. Nothing stands after the last.
-#[cycle(put_arguments_put_sort)]
-fn put_arguments(
-    sorts: &[u16],
-    counts: Counts,
-    start: u16,
-    count: u16,
-    out: &mut [u8],
-    at: usize,
-) -> usize
-    requires { RunRoom sorts.now counts.sorts counts.entries start count out.old at }
-    ensures { Put out.old at (texts (args_at sorts.now counts.sorts start count))
-        out.new result }
-{
-    if count == 0 {
-        return at;
-    }
-    let first = word(sorts, ENTRIES_AT + (start as usize));
-    let behind = put_sort(sorts, counts, SortId(first), out, at);
-    if count == 1 {
-        return behind;
-    }
-    let next = put_bytes(b" # ", out, behind);
-    put_arguments(sorts, counts, start + 1, count - 1, out, next)
+    let sorts = Sorts { words, counts };
+    let mut to = Out { bytes: out, at };
+    put_text(&sorts, id, &mut to);
+    to.at
 }
 
 // Checks 1 to 4, 12, 13 and 14 of writing a sort: the first that fails.
@@ -210,35 +179,34 @@ fn test_write(
 // The text of a sort in the lent buffer, and its length. Not one byte is written on a refusal, and none past the text.
 // Ruled out: a text for a function with an argument that has none; ` #` for ` # `; 14 for a sort without text.
 pub fn write(
-    sorts: &[u16],
+    words: &[u16],
     sort_count: usize,
     entry_count: usize,
     id: SortId,
     out: &mut [u8],
-) -> Written
+) -> Result<usize, Refusal>
     ensures { write_left out.new result
-        ≡ writing sorts.now sort_count entry_count id.0 out.old }
+        ≡ writing words.now sort_count entry_count id.0 out.old }
 {
-    match test_write(sorts, sort_count, entry_count, id, out) {
-        Err(refusal) => Written::Refused(refusal),
-        Ok(()) => {
-            let counts = Counts {
-                sorts: sort_count as u16,
-                entries: entry_count as u16,
-            };
-            Written::Text(put_sort(sorts, counts, id, out, 0))
-        }
-    }
+    test_write(words, sort_count, entry_count, id, out)?;
+    let counts = Counts {
+        sorts: sort_count as u16,
+        entries: entry_count as u16,
+    };
+    let sorts = Sorts { words, counts };
+    let mut to = Out { bytes: out, at: 0 };
+    put_text(&sorts, id, &mut to);
+    Ok(to.at)
 }
 
 // An answer as one number: the length of the text, or 2^63 and the code of a refusal.
-#[tactic(auto, unfolding(sort_text::specs::Writing::code_written))]
-fn pack_written(answer: Written) -> u64
+#[tactic(auto, unfolding(resolved_sort::specs::Entries::code_answered))]
+fn pack_written(answer: Result<usize, Refusal>) -> u64
     ensures { result ≡ pack_written answer }
 {
     match answer {
-        Written::Refused(refusal) => BIT_63 + (refusal.code() as u64),
-        Written::Text(length) => length as u64,
+        Ok(length) => length as u64,
+        Err(refusal) => BIT_63 + (refusal.code() as u64),
     }
 }
 

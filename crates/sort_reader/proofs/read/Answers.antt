@@ -1,13 +1,26 @@
 -- Refused with the first failing check; else the line is read. Assumes nothing.
+use Rattle.std.proofs.Common.{rules, arith, ap, ◌∙◌}
+use Rattle.sort_text.specs.Reading.{read_left}
 use Rattle.sort_reader.proofs.Entry as law
 use Rattle.sort_reader.proofs.read.Goals as goal
 
+pub returns-in_err-test_read : goal.returns-in_err-test_read
+returns-in_err-test_read c =
+    ap (read_left _) (law.handed _ _ c.from_residual.ensures.1) ∙ law.refused _ _ _ _ _ c.test_read.ensures _ c.in_err-test_read.was
+
+pub overflow_cast-counts : goal.overflow_cast-counts
+overflow_cast-counts c = let q = law.passes _ _ _ _ _ c.test_read.ensures c.in_ok-test_read.was in omega (arith, q.checked.sorts)
+
+pub overflow_cast-counts-2 : goal.overflow_cast-counts-2
+overflow_cast-counts-2 c = let q = law.passes _ _ _ _ _ c.test_read.ensures c.in_ok-test_read.was in omega (arith, q.checked.entries)
+
 pub read_line-requires : goal.read_line-requires
-read_line-requires c = law.passes c.args.sorts.now c.args.sort_count c.args.entry_count c.args.line.now c.test_read.result c.test_read.ensures c.in-Ok.is
+read_line-requires c = law.passes _ _ _ _ _ c.test_read.ensures c.in_ok-test_read.was
 
-pub returns-in-Err : goal.returns-in-Err
-returns-in-Err c = law.refused c.args.sorts.now c.args.sort_count c.args.entry_count c.args.line.now c.test_read.result c.test_read.ensures _ c.in-Err.is
+pub returns-in_err-id : goal.returns-in_err-id
+returns-in_err-id c =
+    ap (read_left _) (law.handed _ _ c.from_residual-in_err-id.ensures.1)
+    ∙ law.answered _ _ _ _ _ c.test_read.ensures c.in_ok-test_read.was _ _ (search rules)
 
-pub returns-in-Ok : goal.returns-in-Ok
-returns-in-Ok c =
-    law.answered c.args.sorts.now c.args.sort_count c.args.entry_count c.args.line.now c.test_read.result c.test_read.ensures c.in-Ok.is _ _ c.read_line.ensures
+pub returns : goal.returns
+returns c = law.answered _ _ _ _ _ c.test_read.ensures c.in_ok-test_read.was _ _ (search rules)

@@ -1,14 +1,18 @@
 -- Steps on a stack of sort numbers, as the code carries them out.
-use Rattle.std.specs.Prelude.{◌≡◌, List, [], ◌∷◌, ℕ, zero, suc, ◌+◌, ◌-◌, ◌<◌, ◌≤◌, length, get_or, drop, set}
+use Rattle.std.specs.Prelude.{◌≡◌, List, [], ◌∷◌, ℕ, zero, suc, ◌+◌, ◌-◌, ◌<◌, ◌≤◌, length, get_or, drop}
+use Rattle.std.specs.Prelude.{Option, Some, None}
 use Rattle.resolved_sort.specs.declared.SortId.{SortId}
+use Rattle.resolved_sort.specs.declared.Counts.{Counts}
 use Rattle.resolved_sort.specs.declared.Joined.{Joined}
 use Rattle.resolved_sort.specs.declared.Joined.TheVariants.{At, Nothing, Full}
+use Rattle.sort_reader.specs.declared.Step.{Step}
+use Rattle.sort_reader.specs.declared.Step.TheVariants.{Fixed, Container, Function}
 use Rattle.resolved_sort.specs.Tree.{Tree}
 use Rattle.resolved_sort.specs.Interning.{look}
 use Rattle.resolved_sort.specs.Storage.{trees, sorts_of}
 use Rattle.resolved_sort.specs.Entries.{Stored, stored}
-use Rattle.resolved_sort.specs.Rows.{Checked}
-use Rattle.sort_text.specs.Postfix.{function_step, Short, sixth, steps}
+use Rattle.resolved_sort.specs.Rows.{Checked, stored_at}
+use Rattle.sort_text.specs.Postfix.{function_step, op_of, Short, sixth, steps}
 
 -- how many sorts the stack holds: more than the steps of a line can put there
 abbrev pub max_stack : ℕ
@@ -37,19 +41,28 @@ pub record Running (ws : List ℕ) (n e : ℕ) (ops : List ℕ) (i : ℕ) (ids :
   pub room : depth + (length ops - i) ≤ max_stack
   pub steps_left : Short (drop i ops)
 
--- Going on after a sort was made: with its number at base, on top of the stack; or not, where nothing was made.
-unfoldable pub GoesOn : List ℕ → List ℕ → ℕ → List SortId → ℕ → Joined → Type 0
-GoesOn ws ops i ids base (At c K) =
-    Running ws K.sorts K.entries ops (i + 1) (set ids base c) (base + 1)
-GoesOn ws ops i ids base (Nothing K) = Unit {0}
-GoesOn ws ops i ids base Full = Unit {0}
-
-unfoldable pub go_on : List ℕ → List ℕ → ℕ → List SortId → ℕ → Joined → Stored
-go_on ws ops i ids base (At c K) =
-    run_at ws K.sorts K.entries (drop (i + 1) ops) (set ids base c) (base + 1)
-go_on ws ops i ids base (Nothing K) = record { words = ws; answer = Nothing K }
-go_on ws ops i ids base Full = record { words = ws; answer = Full }
-
 -- the number of arguments that a function step takes
 abbrev pub arguments_of : ℕ → ℕ
 arguments_of op = op - function_step
+
+-- what a step says
+unfoldable pub SaysStep : ℕ → Step → Type 0
+SaysStep op (Fixed id) = (op < 6) × (id.0 ≡ op)
+SaysStep op (Container o) = (6 ≤ op) × (op < 11) × (o ≡ op_of (op - 6))
+SaysStep op (Function k) = (11 ≤ op) × (k ≡ arguments_of op)
+
+-- The sort on top of a stack of depth d is taken, and its depth is then l; or there was none.
+abbrev pub TopTaken : List SortId → (d l : ℕ) → Option SortId → Type 0
+TopTaken ids d l (Some id) = (d ≡ l + 1) × (id.0 ≡ id_at ids l)
+TopTaken ids d l None = (d ≡ 0) × (l ≡ 0)
+
+-- The words and counts that the steps of a sort have left, and the sort made; none where room ended, or where the stack
+-- had not what a step takes.
+abbrev pub MadeNone : Joined → Type 0
+MadeNone (At s k) = ⊥
+MadeNone (Nothing k) = Unit {0}
+MadeNone Full = Unit {0}
+
+abbrev pub RunLeft : List ℕ → Counts → Option SortId → Stored → Type 0
+RunLeft ws k (Some s) w = stored_at ws (At s k) ≡ w
+RunLeft ws k None w = (ws ≡ w.words) × MadeNone w.answer
