@@ -13,7 +13,10 @@ use Rattle.held_line.specs.Holding.{holding, line_at, line_kept, held_at}
 use Rattle.held_line.proofs.Held.{byte_held}
 use Rattle.pair_line.specs.PairProgram.{line_of, single, pair}
 use Rattle.text_out.specs.Put.{Put}
-use Rattle.text_out.proofs.Put.{put_none, put_then, put_as, put_length}
+use Rattle.text_out.proofs.Put.{put_none, put_then, put_length}
+use Rattle.text_out.specs.declared.Out.{Out}
+use Rattle.text_out.specs.Outs.{then_put}
+use Rattle.text_out.proofs.Outs.{then_put_nothing, then_put_both, left_whole}
 use Rattle.pair_line.specs.Room.{line_room}
 use Rattle.pair_line.specs.Answers.{with_lf}
 use Rattle.pair_line.proofs.Ways.{pair_has_room, single_has_room}
@@ -21,10 +24,11 @@ use Rattle.pair_input.specs.declared.Held.{Held}
 use Rattle.pair_input.specs.declared.Held.TheVariants.{First, Second}
 use Rattle.pair_input.specs.ByteByByte.{Lines, first, second, most_held, Turned, turned, take_byte, take_bytes, at_end}
 use Rattle.pair_input.specs.Held.{lines_of, Fits, Holds, InMemory, first_in_memory, second_in_memory, byte_in_memory, bytes_in_memory, Turns, Feeds}
+use Rattle.pair_input.specs.Inner.Held.{TurnKept}
 use Rattle.pair_input.proofs.Exactly.{in_parts}
 
 -- a byte of the input, by what is held
-module _ (memory : List ℕ) (held : Held) (byte : ℕ) (out : List ℕ) (at : ℕ) (q : Holds memory held) where
+module _ (memory : List ℕ) (held : Held) (byte : ℕ) (q : Holds memory held) where
   module _ (n : ℕ) (i : held ≡ First n) where
     pub first_few : n ≤ most_held
     unfolding Fits
@@ -35,32 +39,34 @@ module _ (memory : List ℕ) (held : Held) (byte : ℕ) (out : List ℕ) (at : �
     lines_first = ap (lines_of memory) i
 
     pub first_ends : byte ≡ 10
-        → Turns (take_byte (lines_of memory held) byte) (byte_in_memory memory held byte) out at memory (Second n 0) out at
+        → TurnKept (take_byte (lines_of memory held) byte) (byte_in_memory memory held byte) memory (Second n 0) × ((o : Out) → o ≡ then_put o (take_byte (lines_of memory held) byte).output)
     unfolding take_byte lines_of Fits byte_in_memory
     first_ends e =
         let t : take_byte (lines_of memory held) byte ≡ turned (second (line_at memory 0 n) []) [] = ap
-        (λ h. take_byte h byte) lines_first ∙ rw (eq-eqb byte 10 e) in
-        record {
-          holds = record { fits = (first_few, omega arith); long = q.long };
-          is_stored = sym (ap (λ h. byte_in_memory memory h byte) i ∙ rw (eq-eqb byte 10 e));
-          lines = sym (ap (λ x. x.lines)
-              t);
-          put = put_as (sym (ap (λ x. x.output) t)) (put_none out at);
-        }
+        (λ h. take_byte h byte) lines_first ∙ rw (eq-eqb byte 10 e) in (
+          record {
+            holds = record { fits = (first_few, omega arith); long = q.long };
+            is_stored = sym (ap (λ h. byte_in_memory memory h byte) i ∙ rw (eq-eqb byte 10 e));
+            lines = sym (ap (λ x. x.lines)
+                t);
+          },
+          λ o. sym (ap (λ x. then_put o x.output) t ∙ then_put_nothing o),
+        )
 
     pub first_goes_on : (byte ≡ 10 → ⊥) → (left : List ℕ) (next : ℕ) → line_kept left next ≡ held_at most_held memory 0 n byte
-        → Turns (take_byte (lines_of memory held) byte) (byte_in_memory memory held byte) out at left (First next) out at
+        → TurnKept (take_byte (lines_of memory held) byte) (byte_in_memory memory held byte) left (First next) × ((o : Out) → o ≡ then_put o (take_byte (lines_of memory held) byte).output)
     unfolding take_byte lines_of Fits byte_in_memory
     first_goes_on d left next k =
         let h = byte_held most_held memory 0 n byte first_few (omega (arith, q.long)) left next k in
         let t : take_byte (lines_of memory held) byte ≡ turned (first (holding most_held (line_at memory 0 n) byte)) [] = ap
-        (λ x. take_byte x byte) lines_first ∙ rw (ne_eqb byte 10 d) in
-        record {
-          holds = record { fits = h.few; long = omega (arith, h.long, q.long) };
-          is_stored = ap first_in_memory k ∙ sym (ap (λ x. byte_in_memory memory x byte) i ∙ rw (ne_eqb byte 10 d));
-          lines = ap first h.line ∙ sym (ap (λ x. x.lines) t);
-          put = put_as (sym (ap (λ x. x.output) t)) (put_none out at);
-        }
+        (λ x. take_byte x byte) lines_first ∙ rw (ne_eqb byte 10 d) in (
+          record {
+            holds = record { fits = h.few; long = omega (arith, h.long, q.long) };
+            is_stored = ap first_in_memory k ∙ sym (ap (λ x. byte_in_memory memory x byte) i ∙ rw (ne_eqb byte 10 d));
+            lines = ap first h.line ∙ sym (ap (λ x. x.lines) t);
+          },
+          λ o. sym (ap (λ x. then_put o x.output) t ∙ then_put_nothing o),
+        )
 
   module _ (n m : ℕ) (i : held ≡ Second n m) where
     pub second_few : (n ≤ most_held) × (m ≤ most_held)
@@ -74,33 +80,35 @@ module _ (memory : List ℕ) (held : Held) (byte : ℕ) (out : List ℕ) (at : �
     unfolding lines_of
     lines_second = ap (lines_of memory) i
 
-    pub second_ends : byte ≡ 10 → (left : List ℕ) (next : ℕ) → Put out at (with_lf (pair (line_at memory 0 n) (line_at memory n m))) left next
-        → Turns (take_byte (lines_of memory held) byte) (byte_in_memory memory held byte) out at memory (First 0) left next
+    pub second_ends : byte ≡ 10 → (o : Out) {p : Out} → p ≡ then_put o (with_lf (pair (line_at memory 0 n) (line_at memory n m)))
+        → TurnKept (take_byte (lines_of memory held) byte) (byte_in_memory memory held byte) memory (First 0) × (p ≡ then_put o (take_byte (lines_of memory held) byte).output)
     unfolding take_byte lines_of Fits byte_in_memory
-    second_ends e left next h =
+    second_ends e o h =
         let t : take_byte (lines_of memory held) byte ≡ turned (first [])
         (with_lf (pair (line_at memory 0 n) (line_at memory n m))) = ap (λ x. take_byte x byte) lines_second ∙
-        rw (eq-eqb byte 10 e) in
-        record {
-          holds = record { fits = omega arith; long = q.long };
-          is_stored = sym (ap (λ x. byte_in_memory memory x byte) i ∙ rw (eq-eqb byte 10 e));
-          lines = sym (ap (λ x. x.lines) t);
-          put = put_as (sym (ap (λ x. x.output) t)) h;
-        }
+        rw (eq-eqb byte 10 e) in (
+          record {
+            holds = record { fits = omega arith; long = q.long };
+            is_stored = sym (ap (λ x. byte_in_memory memory x byte) i ∙ rw (eq-eqb byte 10 e));
+            lines = sym (ap (λ x. x.lines) t);
+          },
+          h ∙ sym (ap (λ x. then_put o x.output) t),
+        )
 
     pub second_goes_on : (byte ≡ 10 → ⊥) → (left : List ℕ) (next : ℕ) → line_kept left next ≡ held_at most_held memory n m byte
-        → Turns (take_byte (lines_of memory held) byte) (byte_in_memory memory held byte) out at left (Second n next) out at
+        → TurnKept (take_byte (lines_of memory held) byte) (byte_in_memory memory held byte) left (Second n next) × ((o : Out) → o ≡ then_put o (take_byte (lines_of memory held) byte).output)
     unfolding take_byte lines_of Fits byte_in_memory
     second_goes_on d left next k =
         let h = byte_held most_held memory n m byte second_few.1 (omega (arith, second_few.0, q.long)) left next k in
         let t : take_byte (lines_of memory held) byte ≡ turned (second (line_at memory 0 n) (holding most_held (line_at memory n m)
-        byte)) [] = ap (λ x. take_byte x byte) lines_second ∙ rw (ne_eqb byte 10 d) in
-        record {
-          holds = record { fits = (second_few.0, h.few); long = omega (arith, h.long, q.long) };
-          is_stored = ap (second_in_memory n) k ∙ sym (ap (λ x. byte_in_memory memory x byte) i ∙ rw (ne_eqb byte 10 d));
-          lines = ap₂ second h.before h.line ∙ sym (ap (λ x. x.lines) t);
-          put = put_as (sym (ap (λ x. x.output) t)) (put_none out at);
-        }
+        byte)) [] = ap (λ x. take_byte x byte) lines_second ∙ rw (ne_eqb byte 10 d) in (
+          record {
+            holds = record { fits = (second_few.0, h.few); long = omega (arith, h.long, q.long) };
+            is_stored = ap (second_in_memory n) k ∙ sym (ap (λ x. byte_in_memory memory x byte) i ∙ rw (ne_eqb byte 10 d));
+            lines = ap₂ second h.before h.line ∙ sym (ap (λ x. x.lines) t);
+          },
+          λ o. sym (ap (λ x. then_put o x.output) t ∙ then_put_nothing o),
+        )
 
 -- no byte prints more than the longest line
 output_by : (o : List ℕ) (b : Bool) (h k : Lines) → length o ≤ line_room → length (cond b (turned h o) (turned k [])).output ≤ line_room
@@ -127,6 +135,11 @@ pub record Feeding (memory : List ℕ) (held : Held) (bytes out : List ℕ) (mem
   pub goes : (k : ℕ) → k < used → length (take_bytes (lines_of memory held) (take k bytes)).output + line_room ≤ length out
   pub memory_long : length memory' ≡ length memory
   pub out_long : length out' ≡ length out
+
+-- the same, as the buffer is put by the one that started with it
+pub record FeedingTo (memory : List ℕ) (held : Held) (bytes : List ℕ) (o : Out) (memory' : List ℕ) (held' : Held) (p : Out) (used : ℕ) : Type 0 where
+  pub feeding : Feeding memory held bytes o.bytes.now memory' held' p.bytes.now used p.at
+  pub is : p ≡ then_put o (take_bytes (lines_of memory held) (take used bytes)).output
 
 pub nothing_fed : (memory : List ℕ) (held : Held) (bytes out : List ℕ) → Holds memory held → Feeding memory held bytes out memory held out 0 0
 unfolding take_bytes bytes_in_memory
@@ -194,11 +207,49 @@ module _ (memory : List ℕ) (held : Held) (bytes out memory₁ : List ℕ) (hel
           out_long = put_length g'.put ∙ f.out_long;
         }
 
-  pub all_fed : length bytes ≤ used → Feeds memory held bytes out memory₁ held₁ out₁ used at
+  all_fed : length bytes ≤ used → Feeds memory held bytes out memory₁ held₁ out₁ used at
   all_fed h = record { turns = f.turns; within = f.within; fits = f.fits; goes = f.goes; stops = λ x. absurd (omega (arith, h, x)) }
 
+  pub all_fed_as : length bytes ≤ used → Feeds memory held bytes out memory₁ held₁ out₁ (length bytes) at
+  all_fed_as h =
+      let z : used ≡ length bytes = omega (arith, h, f.within) in
+      subst (λ (u : ℕ). Feeds memory held bytes out memory₁ held₁ out₁ u at) z (all_fed h)
+
+-- bytes fed to a buffer that is put by one
+module _ (memory : List ℕ) (held : Held) (bytes : List ℕ) (o : Out) where
+  pub none_fed_to : o.at ≡ 0 → Holds memory held → FeedingTo memory held bytes o memory held o 0
+  unfolding take_bytes
+  none_fed_to z q =
+      record {
+        feeding = subst (Feeding memory held bytes o.bytes.now memory held o.bytes.now 0) (sym z) (nothing_fed memory held bytes o.bytes.now q);
+        is = sym (then_put_nothing o);
+      }
+
+  module _ (memory₁ : List ℕ) (held₁ : Held) (p : Out) (used : ℕ) (f : FeedingTo memory held bytes o memory₁ held₁ p used) where
+    -- the buffer as it is then
+    pub fed_to : {left : List ℕ} (u : ℕ) → (o.bytes.ghost_name ≡ p.bytes.ghost_name → left ≡ p.bytes.now)
+        → Feeds memory held bytes o.bytes.now memory₁ held₁ p.bytes.now u p.at → Feeds memory held bytes o.bytes.now memory₁ held₁ left u p.at
+    unfolding then_put
+    fed_to u h g = subst (λ us. Feeds memory held bytes o.bytes.now memory₁ held₁ us u p.at) (sym (h (sym (ap (λ m. m.bytes.ghost_name) f.is)))) g
+
+    module _ (u : used < length bytes) (h : line_room ≤ length o.bytes.now - p.at) where
+      pub byte_fed_to : (memory₂ : List ℕ) (held₂ : Held) (q : Out) → length memory₂ ≡ length memory₁
+          → TurnKept (take_byte (lines_of memory₁ held₁) (get_or bytes used 0)) (byte_in_memory memory₁ held₁ (get_or bytes used 0)) memory₂ held₂
+          → q ≡ then_put p (take_byte (lines_of memory₁ held₁) (get_or bytes used 0)).output
+          → FeedingTo memory held bytes o memory₂ held₂ q (used + 1)
+      byte_fed_to memory₂ held₂ q k g e =
+          let room : line_room ≤ length p.bytes.now - p.at = omega (arith, h, f.feeding.out_long) in
+          let fits = byte_output (lines_of memory₁ held₁) (get_or bytes used 0) in
+          record {
+            feeding = byte_fed memory held bytes o.bytes.now memory₁ held₁ p.bytes.now used p.at f.feeding u room memory₂ held₂ q.bytes.now q.at k
+                (record { holds = g.holds; is_stored = g.is_stored; lines = g.lines; put = left_whole p q (omega (arith, room, fits)) e (λ z. refl) });
+            is = e ∙ (ap₂ (λ x h. then_put x (take_byte h (get_or bytes used 0)).output) f.is f.feeding.turns.lines
+                ∙ (sym (then_put_both o _ _)
+                ∙ sym (ap (λ x. then_put o x.output) (next_byte memory held bytes o.bytes.now memory₁ held₁ p.bytes.now used p.at f.feeding u))));
+          }
+
 -- the end of the input
-module _ (memory : List ℕ) (held : Held) (out : List ℕ) (q : Holds memory held) where
+module _ (memory : List ℕ) (held : Held) (q : Holds memory held) (o : Out) where
   line_is_some : (start n : ℕ) → (n ≡ 0 → ⊥) → start + n ≤ length memory → (b : ℕ) × (l : List ℕ) × (line_at memory start n ≡ b ∷ l)
   line_is_some start n d h = some (line_at memory start n) (omega (
     arith,
@@ -216,37 +267,27 @@ module _ (memory : List ℕ) (held : Held) (out : List ℕ) (q : Holds memory he
       some (b ∷ m) p e = (b, m, e)
 
   module _ (n : ℕ) (i : held ≡ First n) where
-    pub first_inside : n ≤ length memory
-    first_inside = omega (arith, first_few memory held 0 out 0 q n i, q.long)
-
-    pub none_left : n ≡ 0 → Put out 0 (at_end (lines_of memory held)) out 0
+    pub none_left : n ≡ 0 → o ≡ then_put o (at_end (lines_of memory held))
     unfolding at_end lines_of
-    none_left e = put_as (sym (ap (λ h. at_end (lines_of memory h)) (i ∙ ap First e))) (put_none out 0)
+    none_left e = sym (ap (λ h. then_put o (at_end (lines_of memory h))) (i ∙ ap First e) ∙ then_put_nothing o)
 
-    pub one_left : (n ≡ 0 → ⊥) → (left : List ℕ) (r : ℕ) → Put out 0 (with_lf (single (line_of (line_at memory 0 n))))
-        left r → Put out 0 (at_end (lines_of memory held)) left r
+    pub one_left : (n ≡ 0 → ⊥) → {p : Out} → p ≡ then_put o (with_lf (single (line_of (line_at memory 0 n)))) → p ≡ then_put o (at_end (lines_of memory held))
     unfolding at_end lines_of
-    one_left d left r h =
-        let x = line_is_some 0 n d (omega (arith, first_inside)) in
-        put_as (ap (λ l. with_lf (single (line_of l))) x.2 ∙ sym (ap (λ k. at_end (lines_of memory k)) i ∙ ap (λ l. at_end (first l)) x.2)) h
+    one_left d h =
+        let x = line_is_some 0 n d (omega (arith, first_few memory held 0 q n i, q.long)) in
+        h ∙ ap (then_put o) (ap (λ l. with_lf (single (line_of l))) x.2 ∙ sym (ap (λ k. at_end (lines_of memory k)) i ∙ ap (λ l. at_end (first l)) x.2))
 
   module _ (n m : ℕ) (i : held ≡ Second n m) where
-    pub pair_inside : n + m ≤ length memory
-    pair_inside = both_inside memory held 0 out 0 q n m i
-
-    pub single_left : m ≡ 0 → (left : List ℕ) (r : ℕ) → Put out 0 (with_lf (single (line_of (line_at memory 0 n)))) left
-        r → Put out 0 (at_end (lines_of memory held)) left r
+    pub single_left : m ≡ 0 → {p : Out} → p ≡ then_put o (with_lf (single (line_of (line_at memory 0 n)))) → p ≡ then_put o (at_end (lines_of memory held))
     unfolding at_end lines_of
-    single_left e left r h = put_as (sym (ap (λ k. at_end (lines_of memory k)) (i ∙ ap (Second n) e))) h
+    single_left e h = h ∙ ap (then_put o) (sym (ap (λ k. at_end (lines_of memory k)) (i ∙ ap (Second n) e)))
 
-    pub pair_left : (m ≡ 0 → ⊥) → (left : List ℕ) (r : ℕ)
-        → Put out 0 (with_lf (pair (line_at memory 0 n) (line_at memory n m))) left r
-        → Put out 0 (at_end (lines_of memory held)) left r
+    pub pair_left : (m ≡ 0 → ⊥) → {p : Out} → p ≡ then_put o (with_lf (pair (line_at memory 0 n) (line_at memory n m))) → p ≡ then_put o (at_end (lines_of memory held))
     unfolding at_end lines_of
-    pair_left d left r h =
-        let x = line_is_some n m d pair_inside in
-        put_as (ap (λ l. with_lf (pair (line_at memory 0 n) l)) x.2 ∙ sym (ap (λ k. at_end (lines_of memory k)) i ∙ ap
-        (λ l. at_end (second (line_at memory 0 n) l)) x.2)) h
+    pair_left d h =
+        let x = line_is_some n m d (both_inside memory held 0 q n m i) in
+        h ∙ ap (then_put o) (ap (λ l. with_lf (pair (line_at memory 0 n) l)) x.2 ∙ sym (ap (λ k. at_end (lines_of memory k)) i ∙ ap
+        (λ l. at_end (second (line_at memory 0 n) l)) x.2))
 
 -- Where there are bytes and the buffer has room for a line, at least one byte is taken.
 pub feeds_some : (memory : List ℕ) (held : Held) (bytes out memory₁ : List ℕ) (held₁ : Held) (out₁ : List ℕ)
