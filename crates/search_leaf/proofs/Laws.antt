@@ -21,10 +21,10 @@ use Rattle.inference.specs.SolveEntry.{nothing_met}
 use Rattle.inference.proofs.Invariant.{sorts_only_refl}
 use Rattle.inference.proofs.MakingSorts.{MadeSorts, StandAll, resolve_all_makes}
 use Rattle.search_state.specs.declared.Sizes.{Sizes}
-use Rattle.search_state.specs.declared.State.{State}
+use Rattle.search_state.specs.Inner.States.{State}
 use Rattle.search_state.specs.declared.Branch.{Branch}
-use Rattle.search_state.specs.declared.Answer.{Answer}
-use Rattle.search_state.specs.declared.Answer.TheVariants.{Found, Full as Ended}
+use Rattle.search_state.specs.Inner.States.{Answer}
+use Rattle.search_state.specs.Inner.States.{Found, Full as Ended}
 use Rattle.unification.specs.declared.Full.{Full}
 use Rattle.std.specs.Prelude.{Result, Ok, Err}
 use Rattle.resolved_sort.specs.declared.NoRoom.{NoRoom}

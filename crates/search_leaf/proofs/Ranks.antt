@@ -11,7 +11,7 @@ use Rattle.inference.specs.Search.{dominated_by}
 use Rattle.inference.specs.SolveEntry.{nothing_met}
 use Rattle.inference.proofs.Measures.{compare_below, compare_above, compare_level}
 use Rattle.search_state.specs.declared.Sizes.{Sizes}
-use Rattle.search_state.specs.declared.State.{State}
+use Rattle.search_state.specs.Inner.States.{State}
 use Rattle.search_state.specs.declared.Branch.{Branch}
 use Rattle.std.specs.Prelude.{Option, Some, None}
 use Rattle.search_state.specs.declared.Incumbent.{Incumbent}

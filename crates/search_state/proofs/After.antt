@@ -21,10 +21,10 @@ use Rattle.inference.specs.Typing.{All, none_left, and_all}
 use Rattle.inference.specs.Inner.Listed.{ListedConstraint, sub_listed, lit_listed, disjunction_listed, comprehension_listed, join_listed, SortsOnly}
 use Rattle.inference.proofs.Invariant.{sorts_only_refl, sorts_only_trans, still_placed}
 use Rattle.search_state.specs.declared.Sizes.{Sizes}
-use Rattle.search_state.specs.declared.State.{State}
+use Rattle.search_state.specs.Inner.States.{State}
 use Rattle.search_state.specs.declared.Branch.{Branch}
-use Rattle.search_state.specs.declared.Answer.{Answer}
-use Rattle.search_state.specs.declared.Answer.TheVariants.{Found, Missed, Full}
+use Rattle.search_state.specs.Inner.States.{Answer}
+use Rattle.search_state.specs.Inner.States.{Found, Missed, Full}
 use Rattle.search_state.specs.declared.Next.{Next}
 use Rattle.search_state.specs.declared.Next.TheVariants.{Solve, Source}
 use Rattle.search_state.specs.Inner.Memory.{problem_in, trail_words, chosen_exprs, choices_of, path_of, world_of, out_of}

@@ -10,9 +10,9 @@ use Rattle.std.specs.Result.{IsErr, IsErrAnd}
 use Rattle.unification.specs.declared.Full.{Full}
 use Rattle.unification.specs.declared.Full.TheVariants.{Sorts}
 use Rattle.search_state.specs.declared.Search.{Search}
-use Rattle.search_state.specs.declared.State.{State}
+use Rattle.search_state.specs.Inner.States.{State}
 use Rattle.search_state.specs.declared.Branch.{Branch}
-use Rattle.search_state.specs.declared.Answer.TheVariants.{Missed}
+use Rattle.search_state.specs.Inner.States.{Missed}
 use Rattle.search_state.specs.declared.Next.{Next}
 use Rattle.search_state.specs.declared.Pairs.{Pairs}
 use Rattle.search_state.specs.declared.Step.{Step}

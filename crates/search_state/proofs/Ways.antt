@@ -31,8 +31,8 @@ use Rattle.inference.specs.Typing.{none_left, and_all}
 use Rattle.inference.specs.Inner.Listed.{SortsOnly}
 use Rattle.inference.proofs.MakingSorts.{MadeSorts, container_makes}
 use Rattle.search_state.specs.declared.Sizes.{Sizes}
-use Rattle.search_state.specs.declared.Answer.{Answer}
-use Rattle.search_state.specs.declared.Answer.TheVariants.{Found, Missed, Full}
+use Rattle.search_state.specs.Inner.States.{Answer}
+use Rattle.search_state.specs.Inner.States.{Found, Missed, Full}
 use Rattle.search_state.specs.declared.Pairs.TheVariants.{Two}
 use Rattle.search_state.specs.declared.LitAt.{LitAt}
 use Rattle.search_state.specs.declared.LitAt.TheVariants.{Number, Free, Other}

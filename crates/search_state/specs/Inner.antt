@@ -4,3 +4,4 @@ pub mod Leaves
 pub mod Memory
 pub mod Searching
 pub mod Solving
+pub mod States

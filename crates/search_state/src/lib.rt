@@ -16,15 +16,6 @@ pub struct Sizes {
     pub default: SortId,
 }
 
-// What goes on from branch to branch, as the definitions see it: how much of the lists is in use, whether there is an
-// incumbent, and whether another leaf had its measure.
-#[derive(Clone, Copy, Debug, PartialEq, Eq)]
-pub struct State {
-    pub lengths: Lengths,
-    pub best: bool,
-    pub tied: bool,
-}
-
 // The leaf with the least measure so far, the Rust's Candidate: its measure, sorts and choices stand in the scratch.
 // They are read out at the leaf, because backtracking takes back the bindings that they are read from. An incumbent
 // that is tied and never beaten means that the list is ambiguous.
@@ -55,14 +46,6 @@ pub struct Branch {
     pub trail: u16,
     pub measure: u16,
     pub choices: u16,
-}
-
-// Whether a leaf was found; or the room that ended, 15 or 16, with the lengths then.
-#[derive(Clone, Copy, Debug, PartialEq, Eq)]
-pub enum Answer {
-    Found(State),
-    Missed(State),
-    Full(u16, Lengths),
 }
 
 // What comes next, where the Rust hands a closure to solve_widening: the constraints from a number on; or the sources

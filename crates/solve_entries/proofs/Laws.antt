@@ -19,8 +19,8 @@ use Rattle.inference.specs.SolveEntry.{Solved, SolveLeft, solve_entry, problem_o
 use Rattle.search_state.specs.declared.Search.{Search}
 use Rattle.search_state.specs.declared.Sizes.{Sizes}
 use Rattle.search_state.specs.declared.Branch.{Branch}
-use Rattle.search_state.specs.declared.Answer.{Answer}
-use Rattle.search_state.specs.declared.Answer.TheVariants.{Found, Missed, Full as Ended}
+use Rattle.search_state.specs.Inner.States.{Answer}
+use Rattle.search_state.specs.Inner.States.{Found, Missed, Full as Ended}
 use Rattle.search_state.specs.declared.Next.TheVariants.{Solve}
 use Rattle.search_state.specs.Inner.Memory.{problem_words, problem_in, path_of, world_of, out_of, solve_from}
 use Rattle.search_state.specs.Inner.Searching.{SearchGrown, Searching as SearchingIn, Done}

@@ -23,10 +23,10 @@ use Rattle.inference.proofs.Accepted.{passed_is_searched}
 use Rattle.inference.proofs.ListsLeft.{nodes_given_back_agree, search_gives_nodes_back}
 use Rattle.inference.specs.ListsLeft.{Ends}
 use Rattle.search_state.specs.declared.Sizes.{Sizes}
-use Rattle.search_state.specs.declared.State.{State}
+use Rattle.search_state.specs.Inner.States.{State}
 use Rattle.search_state.specs.declared.Branch.{Branch}
-use Rattle.search_state.specs.declared.Answer.{Answer}
-use Rattle.search_state.specs.declared.Answer.TheVariants.{Found, Missed, Full}
+use Rattle.search_state.specs.Inner.States.{Answer}
+use Rattle.search_state.specs.Inner.States.{Found, Missed, Full}
 use Rattle.search_state.specs.Inner.Memory.{problem_in, chosen_exprs, best_of, path_of, world_of, out_of, solve_from}
 use Rattle.search_state.specs.Inner.Searching.{SearchGrown, Done}
 use Rattle.solve_outputs.specs.Inner.Begin.{sizes_of, no_incumbent, nothing_taken}

@@ -14,10 +14,10 @@ use Rattle.inference.specs.Search.{Path, World, Going, first_found, literal, lit
 use Rattle.inference.specs.SolveEntry.{nothing_met}
 use Rattle.inference.specs.Typing.{none_left, and_all}
 use Rattle.search_state.specs.declared.Sizes.{Sizes}
-use Rattle.search_state.specs.declared.State.{State}
+use Rattle.search_state.specs.Inner.States.{State}
 use Rattle.search_state.specs.declared.Branch.{Branch}
-use Rattle.search_state.specs.declared.Answer.{Answer}
-use Rattle.search_state.specs.declared.Answer.TheVariants.{Missed}
+use Rattle.search_state.specs.Inner.States.{Answer}
+use Rattle.search_state.specs.Inner.States.{Missed}
 use Rattle.search_state.specs.declared.Next.{Next}
 use Rattle.inference.specs.declared.LitKind.{LitKind}
 use Rattle.inference.specs.declared.LitKind.TheVariants.{Positive, Natural}

@@ -17,10 +17,10 @@ use Rattle.inference.specs.SolveEntry.{nothing_met}
 use Rattle.inference.specs.Inner.Listed.{SortsOnly}
 use Rattle.inference.proofs.Invariant.{sorts_only_refl, sorts_only_trans}
 use Rattle.search_state.specs.declared.Sizes.{Sizes}
-use Rattle.search_state.specs.declared.State.{State}
+use Rattle.search_state.specs.Inner.States.{State}
 use Rattle.search_state.specs.declared.Branch.{Branch}
-use Rattle.search_state.specs.declared.Answer.{Answer}
-use Rattle.search_state.specs.declared.Answer.TheVariants.{Full}
+use Rattle.search_state.specs.Inner.States.{Answer}
+use Rattle.search_state.specs.Inner.States.{Full}
 use Rattle.search_state.specs.declared.Next.{Next}
 use lib.Seq.{get_or-drop}
 use Rattle.resolved_sort.specs.declared.Run.{Run}

@@ -2,7 +2,10 @@
 -- another, and by what interning leaves of the lists. Assumes nothing.
 use mathlib.Core.Path.{◌≡◌, refl, sym, ap, ap₂, ◌∙◌, subst}
 use mathlib.Core.Bool.{Bool, true, false, ◌||◌}
-use mathlib.Core.List.{List, []}
+use mathlib.Core.List.{List, [], ◌∷◌}
+use lib.ListN.{get_or}
+use Rattle.resolved_sort.specs.declared.ComplexSort.{ComplexSort}
+use Rattle.solver.specs.declared.Reading.{Reading as ReadingRow}
 use Prim.Native.Nat.{ℕ, zero, suc, ◌+◌, ◌<◌, ◌≤◌}
 use native.Mathlib.Omega.{arith}
 use Rattle.unification.specs.declared.InferSortId.{InferSortId}
@@ -18,10 +21,10 @@ use Rattle.inference.specs.Search.{Path, World, Out, missed, Going, Reading, on_
 use Rattle.inference.specs.SolveEntry.{nothing_met}
 use Rattle.inference.specs.Inner.Listed.{SortsOnly}
 use Rattle.search_state.specs.declared.Sizes.{Sizes}
-use Rattle.search_state.specs.declared.State.{State}
+use Rattle.search_state.specs.Inner.States.{State}
 use Rattle.search_state.specs.declared.Branch.{Branch}
-use Rattle.search_state.specs.declared.Answer.{Answer}
-use Rattle.search_state.specs.declared.Answer.TheVariants.{Full}
+use Rattle.search_state.specs.Inner.States.{Answer}
+use Rattle.search_state.specs.Inner.States.{Full}
 use Rattle.search_state.specs.declared.Next.{Next}
 use Rattle.resolved_sort.specs.declared.SortId.{SortId}
 use Rattle.resolved_sort.specs.declared.NoRoom.{NoRoom}
@@ -185,3 +188,25 @@ module _ (ls : List ℕ) (z : Sizes) (ws ns bs sc : List ℕ) (k : State) (e : B
               from_start ws₃ ns₃ bs₃ sc₃ a
               (and_comes ls z ws₁ ns bs sc k₁ e reading_asked.ready.nodes first ws₂ ns₂ bs₂ sc₂ r d b
               (rest (readings_from (i + 1))) y k₂ h ws₃ ns₃ bs₃ sc₃ a t)
+
+-- the readings, as the code lists them
+abbrev pub readings_listed : List ReadingRow
+readings_listed =
+    record { body = record { 0 = 1 }; op = ComplexSort.Set } ∷ record { body = record { 0 = 3 }; op = ComplexSort.Bag }
+    ∷ record { body = record { 0 = 2 }; op = ComplexSort.Bag } ∷ []
+
+pub body_listed : (i : ℕ) → i < 3 → (d : ReadingRow) → (get_or readings_listed i d).body.0 ≡ reading_body i
+body_listed zero l d = refl
+body_listed (suc zero) l d = refl
+body_listed (suc (suc zero)) l d = refl
+body_listed (suc (suc (suc i))) l d = absurd (omega (arith, l))
+
+pub op_listed : (i : ℕ) → i < 3 → (d : ReadingRow) → (get_or readings_listed i d).op ≡ reading_op i
+op_listed zero l d = refl
+op_listed (suc zero) l d = refl
+op_listed (suc (suc zero)) l d = refl
+op_listed (suc (suc (suc i))) l d = absurd (omega (arith, l))
+
+pub interns_listed : (i : ℕ) → i < 3 → (d : ReadingRow) (s : ℕ) (ws : List ℕ) (k : Lengths) (ws' : List ℕ) (k' : Lengths) (r : Result SortId NoRoom)
+    → InternsContainer (get_or readings_listed i d).op s ws k ws' k' r → InternsContainer (reading_op i) s ws k ws' k' r
+interns_listed i l d s ws k ws' k' r = subst (λ (o : ComplexSort). InternsContainer o s ws k ws' k' r) (op_listed i l d)

@@ -17,10 +17,10 @@ use Rattle.inference.specs.Search.{Path, World, missed, Going, step, solve, leaf
 use Rattle.inference.specs.SolveEntry.{nothing_met}
 use Rattle.inference.specs.Typing.{All, and_all}
 use Rattle.search_state.specs.declared.Sizes.{Sizes}
-use Rattle.search_state.specs.declared.State.{State}
+use Rattle.search_state.specs.Inner.States.{State}
 use Rattle.search_state.specs.declared.Branch.{Branch}
-use Rattle.search_state.specs.declared.Answer.{Answer}
-use Rattle.search_state.specs.declared.Answer.TheVariants.{Missed}
+use Rattle.search_state.specs.Inner.States.{Answer}
+use Rattle.search_state.specs.Inner.States.{Missed}
 use Rattle.resolved_sort.specs.declared.Run.{Run}
 use Rattle.resolved_sort.specs.declared.SortId.{SortId}
 use Rattle.inference.specs.declared.ExprId.{ExprId}

@@ -5,9 +5,7 @@ use mathlib.Core.Bool.{Bool, true, false, ◌||◌}
 use mathlib.Core.List.{List, [], ◌∷◌}
 use Prim.Native.Nat.{ℕ, ◌+◌, ◌<◌, ◌≤◌}
 use lib.ListN.{get_or, drop}
-use Rattle.std.specs.Prelude.{Some, None, Result, Ok, Err}
-use mathlib.Core.Bool.{cond}
-use mathlib.Core.Option.{some, none}
+use Rattle.std.specs.Prelude.{Result, Ok, Err}
 use Rattle.resolved_sort.specs.declared.Run.{Run}
 use Rattle.resolved_sort.specs.declared.SortId.{SortId}
 use Rattle.resolved_sort.specs.declared.NoRoom.{NoRoom}
@@ -16,30 +14,26 @@ use Rattle.unification.specs.declared.Lengths.{Lengths}
 use Rattle.unification.specs.declared.Full.{Full}
 use Rattle.unification.specs.declared.Full.TheVariants.{Sorts}
 use Rattle.unification.specs.Checked.{Placed}
-use Rattle.unification.specs.Nodes.{binds_of}
-use Rattle.unification.specs.Inner.Making.{lent}
 use Rattle.inference.specs.declared.ExprId.{ExprId}
 use Rattle.inference.specs.Constraints.{rows_from, overload_at}
-use Rattle.inference.specs.Search.{Going, first_found, every_reading, every_overload}
+use Rattle.inference.specs.Search.{first_found, every_reading, every_overload}
 use Rattle.inference.specs.SolveEntry.{nothing_met}
 use Rattle.search_state.specs.declared.Branch.{Branch}
-use Rattle.search_state.specs.declared.State.{State}
-use Rattle.search_state.specs.declared.Sizes.{Sizes}
-use Rattle.search_state.specs.declared.Answer.{Answer}
-use Rattle.search_state.specs.declared.Answer.TheVariants.{Missed}
+use Rattle.search_state.specs.Inner.States.{State}
+use Rattle.search_state.specs.Inner.States.{Missed}
 use Rattle.search_state.specs.declared.Search.{Search}
 use Rattle.search_state.specs.declared.Next.{Next}
 use Rattle.search_state.specs.declared.Pairs.{Pairs}
 use Rattle.search_state.specs.declared.Pairs.TheVariants.{One, Two}
 use Rattle.search_state.specs.declared.Step.TheVariants.{Nothing, Component, Choice}
 use Rattle.search_state.specs.declared.Tries.{Tries}
-use Rattle.search_state.specs.Inner.Memory.{overloads_at, problem_in, chosen_exprs, path_of, candidate_of, best_of, next_of}
+use Rattle.search_state.specs.Inner.Memory.{overloads_at, problem_in, chosen_exprs, next_of}
 use Rattle.search_state.specs.Inner.Leaves.{PairsPlaced, try_at, tries_from, code_of, says_of, with_lengths, with_nodes, back_to, given_back_to}
 use Rattle.search_state.specs.Inner.Searching.{trying, Searching as SearchingIn, Comes as ComesIn}
-use Rattle.search_state.specs.Inner.Solving.{Searching, Goes, Comes, SameProblem, OnlySorts, state_of, answer_of, lent_of, has_best, is_tied, Given, Stays}
+use Rattle.search_state.specs.Inner.Solving.{Searching, Goes, Comes, SameProblem, OnlySorts, state_of, answer_of, lent_of, Given, Stays}
 use Rattle.search_state.proofs.Solving.{asked_on, comes_on, same_on, problem_kept, kept_sorts, state_kept, tried_sorts}
 use Rattle.search_steps.specs.Inner.Steps.{pairs_of, InternsContainer}
-use Rattle.solver.specs.Inner.Asked.{incumbent_of, TriesFine, OverloadsFine, reading_body, reading_op, readings_from}
+use Rattle.solver.specs.Inner.Asked.{TriesFine, OverloadsFine, reading_body, reading_op, readings_from}
 use Rattle.solver.proofs.Ways as law
 use Rattle.solver.proofs.Readings as re
 use Rattle.solver.proofs.Overloads as ov
@@ -313,42 +307,3 @@ module _ (s₀ : Search) (e : Branch) (x : ExprId) (p : InferSortId) (run : Run)
                   u.sorts.now u.nodes.now u.binds.now u.scratch.now (answer_of (state_of u) r) tried y (state_of u)
                   (ap (answer_of (state_of u)) h);
             }
-
--- A state that tells of no incumbent may say anything of its tie.
-module _ (ls : List ℕ) (z : Sizes) (ws ns bs sc : List ℕ) (k : State) (e : Branch) where
-  abbrev told : State
-  told = record { lengths = k.lengths; best = has_best (incumbent_of k); tied = is_tied (incumbent_of k) }
-
-  pub asked_told : (more : ℕ) (xs : List ℕ) (next : Next) → SearchingIn ws ns bs sc ls z k e more xs next
-      → SearchingIn ws ns bs sc ls z told e more xs next
-  asked_told more xs next s =
-      record {
-        ready = s.ready;
-        suits = s.suits;
-        sized = s.sized;
-        long = s.long;
-        trail = s.trail;
-        fine = s.fine;
-        measure = s.measure;
-        choices = s.choices;
-        few = s.few;
-      }
-
-  same_best : best_of ls z sc told.best told.tied ≡ best_of ls z sc k.best k.tied
-  unfolding best_of
-  same_best = go k.best k.tied
-    where
-      go : (b t : Bool) → cond (has_best (cond b (Some (record { tied = t })) None)) (some (candidate_of ls z sc
-          (is_tied (cond b (Some (record { tied = t })) None)))) none ≡ cond b (some (candidate_of ls z sc t)) none
-      go true t = refl
-      go false t = refl
-
-  pub comes_told : (g : Going (Unit {0}) nothing_met (problem_in ls z)) (ws' ns' bs' sc' : List ℕ) (r : Answer)
-      → ComesIn ls z ws ns bs sc told e g ws' ns' bs' sc' r → ComesIn ls z ws ns bs sc k e g ws' ns' bs' sc' r
-  comes_told g ws' ns' bs' sc' r d =
-      record {
-        says = d.says ∙ ap (λ b. g (path_of ls z (binds_of bs k.lengths.variables) sc e) (record { lent = lent ws ns k.lengths; best = b; met = tt })) same_best;
-        grown = d.grown;
-        binds = d.binds;
-        path = d.path;
-      }

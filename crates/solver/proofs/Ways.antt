@@ -19,10 +19,10 @@ use Rattle.inference.specs.Search.{Path, World, Out, Try, Going, else_try, unify
 use Rattle.inference.specs.SolveEntry.{nothing_met}
 use Rattle.inference.specs.Typing.{none_left, and_all}
 use Rattle.search_state.specs.declared.Sizes.{Sizes}
-use Rattle.search_state.specs.declared.State.{State}
+use Rattle.search_state.specs.Inner.States.{State}
 use Rattle.search_state.specs.declared.Branch.{Branch}
-use Rattle.search_state.specs.declared.Answer.{Answer}
-use Rattle.search_state.specs.declared.Answer.TheVariants.{Missed}
+use Rattle.search_state.specs.Inner.States.{Answer}
+use Rattle.search_state.specs.Inner.States.{Missed}
 use Rattle.search_state.specs.declared.Next.{Next}
 use Rattle.search_state.specs.declared.Next.TheVariants.{Solve, Source}
 use Rattle.search_state.specs.declared.Pairs.{Pairs}

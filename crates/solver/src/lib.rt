@@ -20,24 +20,43 @@ ghost use Rattle.search_state.specs.declared.Next.TheVariants.{Solve, Source};
 ghost use Rattle.search_state.specs.Inner.Memory.{overloads_at, source_at, problem_in, solve_from, next_of};
 ghost use Rattle.search_state.specs.Inner.Leaves.{PairsPlaced, added_components, tries_from};
 ghost use Rattle.search_state.specs.Inner.Searching.{SourcesFine, exprs_of, trying};
-ghost use Rattle.search_state.specs.Inner.Searching.{Searching as SearchingIn, Comes as ComesIn};
-ghost use Rattle.search_state.specs.Inner.Solving.{Searching, Comes, lent_of, state_of, answer_of};
-ghost use Rattle.solver.specs.Inner.Asked.{TriesFine, OverloadsFine, exprs_of_constraint, reading_body, reading_op};
-ghost use Rattle.solver.specs.Inner.Asked.{readings_from, incumbent_of};
+ghost use Rattle.search_state.specs.Inner.Solving.{Searching, Comes, lent_of};
+ghost use Rattle.solver.specs.Inner.Asked.{TriesFine, OverloadsFine, exprs_of_constraint, readings_from};
 
 use inference::{Constraint, ExprId, LitKind};
 use problem_words::{constraint_at, overload_place, source_at};
 use resolved_sort::{ComplexSort, Run, SortId};
 use search_join::agreed;
 use search_leaf::{dominated, leaf};
-use search_state::{
-    Answer, Branch, Incumbent, LitAt, Next, Pairs, Search, Sizes, State, Step, Tries,
-};
+use search_state::{Branch, LitAt, Next, Pairs, Search, Step, Tries};
 use search_steps::{
     give_back, intern_container, lit_at, lit_tries, push, roll_back, try_component, try_pairs,
     unify_pairs, widenings_of,
 };
 use unification::{Full, InferSortId};
+
+// What a comprehension may be: the sort of its body, and the container that it makes.
+#[derive(Clone, Copy)]
+struct Reading {
+    body: InferSortId,
+    op: ComplexSort,
+}
+
+// Bool and Set, Nat and Bag, Pos and Bag: these are the sorts 1, 3 and 2.
+const READINGS: [Reading; 3] = [
+    Reading {
+        body: InferSortId(1),
+        op: ComplexSort::Set,
+    },
+    Reading {
+        body: InferSortId(3),
+        op: ComplexSort::Bag,
+    },
+    Reading {
+        body: InferSortId(2),
+        op: ComplexSort::Bag,
+    },
+];
 
 // Solves the constraints from `index` on; answers whether any leaf was reached below this point.
 #[cycle(search)]
@@ -208,9 +227,9 @@ fn solve_comprehension(
         search.new result }
 {
     let mut found = false;
-    for reading in 0..3 {
-        let container = intern_container(search, reading_op(reading), element)?;
-        let pairs = Pairs::Two(body, reading_body(reading), node, InferSortId(container.0));
+    for reading in READINGS {
+        let container = intern_container(search, reading.op, element)?;
+        let pairs = Pairs::Two(body, reading.body, node, InferSortId(container.0));
         found |= attempt(search, at, pairs, Step::Nothing, next)?;
     }
     Ok(found)
@@ -347,93 +366,4 @@ fn resume(search: &mut Search<'_>, at: Branch, next: Next) -> Result<bool, Full>
             then,
         } => solve_join_seq(search, at, target, from, to, then),
     }
-}
-
-// The incumbent that a state tells of.
-fn incumbent_of(st: State) -> Option<Incumbent>
-    ensures { result ≡ incumbent_of st }
-{
-    if st.best {
-        return Some(Incumbent { tied: st.tied });
-    }
-    None
-}
-
-// What was found, with the state then.
-fn answer_of(search: &Search<'_>, found: Result<bool, Full>) -> Answer
-    ensures { result ≡ answer_of (state_of search.now) found }
-{
-    let lengths = search.lengths;
-    let st = match search.best {
-        None => State {
-            lengths,
-            best: false,
-            tied: false,
-        },
-        Some(incumbent) => State {
-            lengths,
-            best: true,
-            tied: incumbent.tied,
-        },
-    };
-    match found {
-        Ok(true) => Answer::Found(st),
-        Ok(false) => Answer::Missed(st),
-        Err(Full::Sorts) => Answer::Full(15, lengths),
-        Err(Full::Nodes) => Answer::Full(16, lengths),
-    }
-}
-
-// The search of lent memory that a caller holds apart, with the state before and after.
-pub fn solve_lent(
-    sorts: &mut [u16],
-    nodes: &mut [u16],
-    binds: &mut [u16],
-    scratch: &mut [u16],
-    lists: &[u16],
-    sizes: Sizes,
-    st: State,
-    at: Branch,
-    index: u16,
-) -> Answer
-    requires { SearchingIn sorts.old nodes.old binds.old scratch.old lists.now sizes st at 0 [] (Solve index) }
-    ensures { ComesIn lists.now sizes
-        sorts.old nodes.old binds.old scratch.old st at
-        (solve_from lists.now sizes index)
-        sorts.new nodes.new binds.new scratch.new result }
-{
-    let mut search = Search {
-        sorts,
-        nodes,
-        binds,
-        scratch,
-        lists,
-        sizes,
-        lengths: st.lengths,
-        best: incumbent_of(st),
-    };
-    let found = solve(&mut search, at, index);
-    answer_of(&search, found)
-}
-
-// The sort of the body, and the container, of a reading: Bool and Set, Nat and Bag, Pos and Bag.
-fn reading_body(reading: u16) -> InferSortId
-    ensures { result.0 ≡ reading_body reading }
-{
-    if reading == 0 {
-        return InferSortId(1);
-    }
-    if reading == 1 {
-        return InferSortId(3);
-    }
-    InferSortId(2)
-}
-
-fn reading_op(reading: u16) -> ComplexSort
-    ensures { result ≡ reading_op reading }
-{
-    if reading == 0 {
-        return ComplexSort::Set;
-    }
-    ComplexSort::Bag
 }

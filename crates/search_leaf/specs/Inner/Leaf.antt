@@ -15,7 +15,7 @@ use Rattle.inference.specs.Search.{resolve_all, dominated_by}
 use Rattle.inference.specs.SolveEntry.{nothing_met}
 use Rattle.inference.specs.Typing.{All}
 use Rattle.search_state.specs.declared.Sizes.{Sizes}
-use Rattle.search_state.specs.declared.State.{State}
+use Rattle.search_state.specs.Inner.States.{State}
 use Rattle.search_state.specs.declared.Branch.{Branch}
 use Rattle.search_state.specs.Inner.Memory.{expr_at, problem_in, measure_at, best_measure_at, choices_at, best_choices_at}
 use Rattle.search_state.specs.Inner.Memory.{scratch_used, best_of}

@@ -24,10 +24,10 @@ use Rattle.inference.specs.Measure.{Ranking, smaller, equal, greater}
 use Rattle.inference.specs.Search.{Agreed, Path, Try, with_binds, with_components, with_choice, wider_tries}
 use Rattle.inference.specs.Search.{narrower_tries, lit_component}
 use Rattle.search_state.specs.declared.Sizes.{Sizes}
-use Rattle.search_state.specs.declared.State.{State}
+use Rattle.search_state.specs.Inner.States.{State}
 use Rattle.search_state.specs.declared.Branch.{Branch}
-use Rattle.search_state.specs.declared.Answer.{Answer}
-use Rattle.search_state.specs.declared.Answer.TheVariants.{Found, Missed, Full as Ended}
+use Rattle.search_state.specs.Inner.States.{Answer}
+use Rattle.search_state.specs.Inner.States.{Found, Missed, Full as Ended}
 use Rattle.search_state.specs.declared.Pairs.{Pairs}
 use Rattle.search_state.specs.declared.Pairs.TheVariants.{One, Two}
 use Rattle.search_state.specs.declared.Step.{Step}

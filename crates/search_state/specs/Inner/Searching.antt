@@ -17,10 +17,10 @@ use Rattle.inference.specs.SolveEntry.{nothing_met}
 use Rattle.inference.specs.Typing.{All}
 use Rattle.inference.specs.Inner.Listed.{ListedConstraint, SortsOnly}
 use Rattle.search_state.specs.declared.Sizes.{Sizes}
-use Rattle.search_state.specs.declared.State.{State}
+use Rattle.search_state.specs.Inner.States.{State}
 use Rattle.search_state.specs.declared.Branch.{Branch}
-use Rattle.search_state.specs.declared.Answer.{Answer}
-use Rattle.search_state.specs.declared.Answer.TheVariants.{Found, Missed, Full}
+use Rattle.search_state.specs.Inner.States.{Answer}
+use Rattle.search_state.specs.Inner.States.{Found, Missed, Full}
 use Rattle.search_state.specs.declared.Next.{Next}
 use Rattle.search_state.specs.declared.Next.TheVariants.{Solve, Source}
 use Rattle.search_state.specs.declared.Step.{Step}

@@ -8,10 +8,10 @@ use Rattle.unification.specs.Inner.Making.{lent}
 use Rattle.inference.specs.Search.{Going}
 use Rattle.inference.specs.SolveEntry.{nothing_met}
 use Rattle.search_state.specs.declared.Sizes.{Sizes}
-use Rattle.search_state.specs.declared.State.{State}
+use Rattle.search_state.specs.Inner.States.{State}
 use Rattle.search_state.specs.declared.Branch.{Branch}
-use Rattle.search_state.specs.declared.Answer.{Answer}
-use Rattle.search_state.specs.declared.Answer.TheVariants.{Full as Ended}
+use Rattle.search_state.specs.Inner.States.{Answer}
+use Rattle.search_state.specs.Inner.States.{Full as Ended}
 use Rattle.search_state.specs.declared.Incumbent.{Incumbent}
 use Rattle.search_state.specs.declared.Search.{Search}
 use Rattle.search_state.specs.declared.Next.{Next}

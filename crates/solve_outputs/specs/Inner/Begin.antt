@@ -7,7 +7,7 @@ use Rattle.unification.specs.Nodes.{max_nodes, max_node_entries, max_vars}
 use Rattle.inference.specs.Constraints.{max_exprs, max_constraints, max_overloads, max_sources, max_components}
 use Rattle.inference.specs.SolveChecks.{Call, given, disjunctions, components}
 use Rattle.search_state.specs.declared.Sizes.{Sizes}
-use Rattle.search_state.specs.declared.State.{State}
+use Rattle.search_state.specs.Inner.States.{State}
 use Rattle.search_state.specs.declared.Branch.{Branch}
 use Rattle.solve_checks.specs.declared.Room.{Room}
 use Rattle.solve_checks.specs.Inner.Calls.{Outs}

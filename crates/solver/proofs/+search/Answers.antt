@@ -17,6 +17,7 @@ use Rattle.solver.proofs.Widening as wi
 use Rattle.solver.proofs.Literals as li
 use Rattle.solver.proofs.Joins as jo
 use Rattle.solver.proofs.Solving as sv
+use Rattle.solver.proofs.Readings as re
 use Rattle.solver.proofs.Structs as st
 use Rattle.solver.proofs.+search.Goals as goal
 
@@ -136,11 +137,11 @@ pub solve_comprehension-returns-in_err-container : goal.solve_comprehension-retu
 solve_comprehension-returns-in_err-container t c =
     st.passed _ _ _ _ _ _ (no_sort_room _ c.from_residual.ensures)
     (st.readings_full _ _ _ _ _ _ _ _ _ c.loop-reading.invariant c.loop-reading-test.true _ _
-    (rw c.reading_op.ensures at c.intern_container.ensures.0) c.intern_container.ensures.1 _ c.in_err-container.was)
+    (re.interns_listed _ c.loop-reading-test.true _ _ _ _ _ _ _ c.intern_container.ensures.0) c.intern_container.ensures.1 _ c.in_err-container.was)
 
 pub solve_comprehension-attempt-requires : goal.solve_comprehension-attempt-requires
 solve_comprehension-attempt-requires t c =
-    let o = rw c.reading_op.ensures at c.intern_container.ensures.0 in (
+    let o = re.interns_listed _ c.loop-reading-test.true _ _ _ _ _ _ _ c.intern_container.ensures.0 in (
       omega (
         arith,
         c.decreases,
@@ -150,7 +151,7 @@ solve_comprehension-attempt-requires t c =
       (
         st.reading_asked _ _ _ _ _ _ _ _ _ c.loop-reading.invariant c.loop-reading-test.true c.intern_container.new.search c.intern_container.result o c.intern_container.ensures.1 _ c.in_ok-container.was,
         st.reading_placed _ _ _ _ _ _ _ _ _ c.loop-reading.invariant c.loop-reading-test.true c.intern_container.new.search c.intern_container.result o c.intern_container.ensures.1 _ c.in_ok-container.was _
-            c.reading_body.ensures,
+            (re.body_listed _ c.loop-reading-test.true _),
       ),
     )
 
@@ -158,13 +159,13 @@ pub solve_comprehension-returns-in_err-found : goal.solve_comprehension-returns-
 solve_comprehension-returns-in_err-found t c =
     st.passed _ _ _ _ _ _ (same_error _ _ c.from_residual-in_err-found.ensures ∙ sym c.in_err-found.was)
     (st.readings_ended _ _ _ _ _ _ _ _ _ c.loop-reading.invariant c.loop-reading-test.true _ _
-    (rw c.reading_op.ensures at c.intern_container.ensures.0) c.intern_container.ensures.1 _ c.in_ok-container.was _ c.reading_body.ensures _ _
+    (re.interns_listed _ c.loop-reading-test.true _ _ _ _ _ _ _ c.intern_container.ensures.0) c.intern_container.ensures.1 _ c.in_ok-container.was _ (re.body_listed _ c.loop-reading-test.true _) _ _
     c.attempt.ensures _ c.in_err-found.was)
 
 pub solve_comprehension-loop-reading-preserved : goal.solve_comprehension-loop-reading-preserved
 solve_comprehension-loop-reading-preserved t c =
     st.readings_more _ _ _ _ _ _ _ _ _ c.loop-reading.invariant c.loop-reading-test.true _ _
-    (rw c.reading_op.ensures at c.intern_container.ensures.0) c.intern_container.ensures.1 _ c.in_ok-container.was _ c.reading_body.ensures _ _
+    (re.interns_listed _ c.loop-reading-test.true _ _ _ _ _ _ _ c.intern_container.ensures.0) c.intern_container.ensures.1 _ c.in_ok-container.was _ (re.body_listed _ c.loop-reading-test.true _) _ _
     c.attempt.ensures _ c.in_ok-found.was
 
 pub solve_comprehension-returns : goal.solve_comprehension-returns

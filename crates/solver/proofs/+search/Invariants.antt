@@ -40,7 +40,7 @@ decreases-tries l = work l.search.now.sizes.constraints l.next + 3
 
 abbrev pub invariant-solve_comprehension-loop-reading : goal.invariant-solve_comprehension-loop-reading
 invariant-solve_comprehension-loop-reading l =
-    ReadingsLeft l.initial.search l.at l.body l.node l.element l.next l.search l.reading l.found
+    ReadingsLeft l.initial.search l.at l.body l.node l.element l.next l.search l.reading-index l.found
 
 abbrev pub invariant-solve_disjunction-loop-i : goal.invariant-solve_disjunction-loop-i
 invariant-solve_disjunction-loop-i l =

@@ -1,5 +1,5 @@
 -- What single functions of the search ask for.
-use Rattle.std.specs.Prelude.{cond, Option, Some, None, List, [], ◌∷◌, ℕ, ◌+◌, ◌-◌, ◌<◌, ◌≤◌, get_or, drop}
+use Rattle.std.specs.Prelude.{List, [], ◌∷◌, ℕ, ◌+◌, ◌-◌, ◌<◌, ◌≤◌, get_or, drop}
 use Rattle.resolved_sort.specs.declared.ComplexSort.{ComplexSort}
 use Rattle.unification.specs.Making.{Lent}
 use Rattle.unification.specs.Growing.{PlacedIn}
@@ -8,8 +8,6 @@ use Rattle.inference.specs.declared.Constraint.TheVariants.{Sub, Lit, Disjunctio
 use Rattle.inference.specs.Constraints.{overload_at, rows_from}
 use Rattle.inference.specs.Search.{Reading}
 use Rattle.search_state.specs.declared.Sizes.{Sizes}
-use Rattle.search_state.specs.declared.State.{State}
-use Rattle.search_state.specs.declared.Incumbent.{Incumbent}
 use Rattle.search_state.specs.declared.Tries.{Tries}
 use Rattle.search_state.specs.Inner.Memory.{overloads_at}
 use Rattle.search_state.specs.Inner.Leaves.{tries_from}
@@ -47,7 +45,3 @@ reading_at i = record { body = reading_body i; op = reading_op i }
 
 abbrev pub readings_from : ℕ → List Reading
 readings_from i = rows_from reading_at i (3 - i)
-
--- the incumbent that a state tells of
-abbrev pub incumbent_of : State → Option Incumbent
-incumbent_of k = cond k.best (Some (record { tied = k.tied })) None
