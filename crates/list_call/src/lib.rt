@@ -15,7 +15,7 @@ use list_memory::{
     COUNTS_AT, COUNTS_TOLD_AT, DEFAULT_AT, LENT_AT, LENT_TOLD_AT, ROWS_AT, Slice, Table,
 };
 use resolved_sort::{Refusal, SortId};
-use solve_checks::Given;
+use solve_checks::{Given, Problem};
 use solve_entries::solve;
 use solve_outputs::Handout;
 use words::word;
@@ -128,17 +128,13 @@ pub fn solve_list(
     let constraints = lend(list, Slice::Constraints, Table::Constraints);
     let overloads = lend(list, Slice::Overloads, Table::Overloads);
     let sources = lend(list, Slice::Sources, Table::Sources);
-    solve(
-        sorts,
-        nodes,
-        binds,
+    let problem = Problem {
         exprs,
         names,
         constraints,
         overloads,
         sources,
         given,
-        scratch,
-        handout,
-    )
+    };
+    solve(sorts, nodes, binds, &problem, scratch, handout)
 }

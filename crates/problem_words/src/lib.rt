@@ -1,18 +1,17 @@
-// The lists of a problem in lent words: rows of constraints and of names read, and all lists packed
-// into one slice from the caller's.
+// The lists of a problem in words: rows of constraints and of names read, in lists of their own or in the one slice that
+// all are packed into.
 #![tactic(auto)]
 
 ghost use Rattle.std.specs.Prelude.{◌≡◌, ◌+◌, drop};
 ghost use Rattle.inference.specs.Constraints.{overload_at, lit_kind, target, constraint, constraint_at};
-ghost use Rattle.search_state.specs.Inner.Memory.{overloads_at, source_at, problem_in};
+ghost use Rattle.search_state.specs.Inner.Memory.{overloads_at, source_at};
 ghost use Rattle.problem_words.specs.Kinds.{kind_of};
-ghost use Rattle.problem_words.specs.Inner.Packed.{problem_from, Packable};
 
 use inference::{CONSTRAINT_WORDS, Constraint, ExprId, LitKind, NameTarget, OVERLOAD_WORDS};
 use resolved_sort::{Run, SortId};
-use search_state::{EXPRS_AT, OVERLOADS_AT, SOURCES_AT, Sizes};
+use search_state::{OVERLOADS_AT, SOURCES_AT};
 use unification::InferSortId;
-use words::{copy, word};
+use words::word;
 
 // The kinds of constraints, by the first word of a row.
 #[derive(Clone, Copy, Debug, PartialEq, Eq)]
@@ -43,38 +42,6 @@ impl TryFrom<u16> for ConstraintKind {
             _ => Err(UnknownKind(word)),
         }
     }
-}
-
-// Packs the lists of a problem: constraints, overloads, sources and places of expressions, each at its ceiling.
-pub fn pack(
-    lists: &mut [u16],
-    exprs: &[u16],
-    constraints: &[u16],
-    overloads: &[u16],
-    sources: &[u16],
-    sizes: Sizes,
-)
-    requires { Packable lists.old exprs.now constraints.now overloads.now sources.now sizes }
-    ensures { problem_in lists.new sizes
-        ≡ problem_from
-        exprs.now constraints.now overloads.now sources.now sizes }
-{
-    copy(
-        lists,
-        0,
-        constraints,
-        0,
-        CONSTRAINT_WORDS * (sizes.constraints as usize),
-    );
-    copy(
-        lists,
-        OVERLOADS_AT,
-        overloads,
-        0,
-        OVERLOAD_WORDS * (sizes.overloads as usize),
-    );
-    copy(lists, SOURCES_AT, sources, 0, sizes.sources as usize);
-    copy(lists, EXPRS_AT, exprs, 0, sizes.exprs as usize);
 }
 
 // The place of the j-th source.

@@ -14,7 +14,7 @@ ghost use Rattle.inference.specs.SolveChecks.{row_checks, last_checks, solve_che
 ghost use Rattle.inference.specs.Inner.RowsLent.{RowsLent};
 ghost use Rattle.search_state.specs.Inner.Memory.{problem_in};
 ghost use Rattle.problem_words.specs.Inner.Packed.{problem_from, Packable};
-ghost use Rattle.solve_checks.specs.Inner.Calls.{Outs, call_for, solve_call, constraint_rows, room_call};
+ghost use Rattle.solve_checks.specs.Inner.Calls.{Outs, call_for, solve_call, constraint_rows};
 ghost use Rattle.solve_checks.specs.Inner.Marks.{marked, mark_of, disjunction_expr, exprs_for, EachIsExpr};
 ghost use Rattle.solve_checks.specs.Inner.Tests.{name_fine, source_fine, constraint_row_fine, Computes};
 ghost use Rattle.resolved_sort.specs.Checks.{first_failing};
@@ -482,39 +482,4 @@ impl Within<'_> {
         check(parts <= room.measure, Refusal::TooShort)?;
         check(choices <= room.choices / CHOICE_WORDS, Refusal::TooShort)
     }
-}
-
-// The checks of the solver over the lists of a problem one by one.
-pub fn test_solve(
-    sorts: &[u16],
-    nodes: &[u16],
-    binds: &[u16],
-    exprs: &[u16],
-    names: &[u16],
-    constraints: &[u16],
-    overloads: &[u16],
-    sources: &[u16],
-    given: Given,
-    room: Room,
-) -> Result<(), Refusal>
-    ensures { (o : Outs room)
-        → result
-        ≡ first_failing (solve_checks (room_call given sorts.now nodes.now
-        binds.now exprs.now names.now constraints.now
-        overloads.now sources.now room o)) }
-{
-    let problem = Problem {
-        exprs,
-        names,
-        constraints,
-        overloads,
-        sources,
-        given,
-    };
-    let storage = Storage {
-        sorts,
-        nodes,
-        binds,
-    };
-    problem.test_solve(&storage, room)
 }

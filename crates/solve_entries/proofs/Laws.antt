@@ -26,10 +26,11 @@ use Rattle.search_state.specs.Inner.Memory.{problem_words, problem_in, path_of, 
 use Rattle.search_state.specs.Inner.Searching.{SearchGrown, Searching as SearchingIn, Done}
 use Rattle.search_state.specs.Inner.Solving.{Given as GivenTo, Searching, Comes, SameProblem, given_of, lent_of, state_of, answer_of}
 use Rattle.problem_words.specs.Inner.Packed.{Packable, problem_from}
-use Rattle.solve_checks.specs.declared.Given.{Given}
-use Rattle.solve_checks.specs.Inner.Calls.{problem_call}
-use Rattle.solve_checks.specs.Call.{lengths_of, call_of}
+use Rattle.solve_checks.specs.declared.Problem.{Problem}
+use Rattle.solve_checks.specs.Inner.Calls.{call_for}
+use Rattle.solve_checks.specs.Call.{lengths_of}
 use Rattle.solve_outputs.specs.declared.Handout.{Handout}
+use Rattle.solve_outputs.specs.Handout.{call_with, solve_left_with}
 use Rattle.solve_outputs.specs.Inner.Begin.{CountsFit, RowsFit, sizes_of, no_incumbent, nothing_taken}
 use Rattle.solve_outputs.specs.Finish.{solve_left}
 use Rattle.solve_outputs.specs.Inner.Finish.{solve_left_by, settled_by, Handable, SortsReturnable, NodesReturnable}
@@ -88,28 +89,28 @@ module _ (s : Search) (S : Searching s nothing_taken 0 [] (Solve 0)) (e : Branch
         (out_of g.lists g.sizes u.sorts.now u.nodes.now u.scratch.now (answer_of (state_of u) r)))) d.problem)
 
 -- A call.
-module _ (g : Given) (ws ns bs xs ks cs os ss sc ts ms hs : List ℕ) where
+module _ (p : Problem) (ws ns bs sc : List ℕ) (h : Handout) where
   abbrev I : Call
-  I = call_of g ws ns bs xs ks cs os ss sc ts ms hs
+  I = call_with p ws ns bs sc h
 
   -- refused
   module _ (t : Tested) (e : t ≡ first_failing (solve_checks I)) where
-    pub refused_so : (c : Refusal) → t ≡ Err c → solve_left (Err c) ws ns bs sc ts ms hs ≡ solve_entry I
+    pub refused_so : (c : Refusal) → t ≡ Err c → solve_left_with (Err c) ws ns bs sc h ≡ solve_entry I
     unfolding solve_entry
-    refused_so c h = rw (sym e ∙ h)
+    refused_so c x = rw (sym e ∙ x)
 
     pub passes : t ≡ Ok tt → first_failing (solve_checks I) ≡ Ok tt
-    passes h = sym e ∙ h
+    passes x = sym e ∙ x
 
   -- passed
   module _ (f : first_failing (solve_checks I) ≡ Ok tt) where
-    pub lengths_fit : CountsFit (lengths_of g)
+    pub lengths_fit : CountsFit (lengths_of p.given)
     lengths_fit = counts_fit I f
 
-    pub names_lent : name_words * g.names ≤ length ks
+    pub names_lent : name_words * p.given.names ≤ length p.names.now
     names_lent = names_whole I f
 
-    pub sizes_fit : RowsFit (problem_call g [] [] cs [] [])
+    pub sizes_fit : RowsFit (call_for p)
     sizes_fit =
         let r = rows_fit I f in
         record {
@@ -121,36 +122,36 @@ module _ (g : Given) (ws ns bs xs ks cs os ss sc ts ms hs : List ℕ) where
           disjunctions = r.disjunctions;
         }
 
-    module _ (z : Sizes) (q : z ≡ sizes_of (problem_call g [] [] cs [] [])) where
+    module _ (z : Sizes) (q : z ≡ sizes_of (call_for p)) where
       same_sizes : z ≡ sizes_of I
       unfolding sizes_of
       same_sizes = q
 
-      pub can_be_packed : (ls : List ℕ) → problem_words ≤ length ls → Packable ls xs cs os ss z
-      can_be_packed ls l = subst (Packable ls xs cs os ss) (sym same_sizes) (packable I f ls l)
+      pub can_be_packed : (ls : List ℕ) → problem_words ≤ length ls → Packable ls p.exprs.now p.constraints.now p.overloads.now p.sources.now z
+      can_be_packed ls l = subst (Packable ls p.exprs.now p.constraints.now p.overloads.now p.sources.now) (sym same_sizes) (packable I f ls l)
 
-      module _ (ls : List ℕ) (p : problem_in ls z ≡ problem_from xs cs os ss z) where
+      module _ (ls : List ℕ) (packs : problem_in ls z ≡ problem_from p.exprs.now p.constraints.now p.overloads.now p.sources.now z) where
         says_problem : problem_in ls (sizes_of I) ≡ problem_of I
-        says_problem = subst (λ y. problem_in ls y ≡ problem_from xs cs os ss y) same_sizes p ∙ packed_problem I
+        says_problem = subst (λ y. problem_in ls y ≡ problem_from p.exprs.now p.constraints.now p.overloads.now p.sources.now y) same_sizes packs ∙ packed_problem I
 
-        module _ (k : Lengths) (v : k ≡ lengths_of g) where
-          pub search_asked : SearchingIn ws ns bs sc ls z (no_incumbent k) nothing_taken 0 [] (Solve 0) × Handable sc ls z ts ms hs
+        module _ (k : Lengths) (v : k ≡ lengths_of p.given) where
+          pub search_asked : SearchingIn ws ns bs sc ls z (no_incumbent k) nothing_taken 0 [] (Solve 0) × Handable sc ls z h.typing.now h.measure.now h.choices.now
           search_asked = (
             subst (λ (y : Sizes). SearchingIn ws ns bs sc ls y (no_incumbent k) nothing_taken 0 [] (Solve 0)) (sym same_sizes)
                 (subst (λ (m : Lengths). SearchingIn ws ns bs sc ls (sizes_of I) (no_incumbent m) nothing_taken 0 []
                 (Solve 0)) (sym v) (begins I f ls says_problem)),
-            subst (λ (y : Sizes). Handable sc ls y ts ms hs) (sym same_sizes) (handable I f ls says_problem sc refl),
+            subst (λ (y : Sizes). Handable sc ls y h.typing.now h.measure.now h.choices.now) (sym same_sizes) (handable I f ls says_problem sc refl),
           )
 
           pub is_outcome : (L : SolveLeft)
               → L
               ≡ solve_left_by k ns bs sc
-              (settled_by (problem_in ls z) (rows_from (base_name_at ks) 0 g.names) ts ms hs k
+              (settled_by (problem_in ls z) (rows_from (base_name_at p.names.now) 0 p.given.names) h.typing.now h.measure.now h.choices.now k
               (solve_from ls z 0 (path_of ls z (binds_of bs k.variables) sc nothing_taken) (world_of ls z ws ns sc (no_incumbent k)))) → L ≡ solve_entry I
           is_outcome L e =
               e
               ∙ ((λ i. solve_left_by (v i) ns bs sc
-              (settled_by (problem_in ls (same_sizes i)) (rows_from (base_name_at ks) 0 g.names) ts ms hs (v i)
+              (settled_by (problem_in ls (same_sizes i)) (rows_from (base_name_at p.names.now) 0 p.given.names) h.typing.now h.measure.now h.choices.now (v i)
               (solve_from ls (same_sizes i) 0 (path_of ls (same_sizes i) (binds_of bs (v i).variables) sc nothing_taken)
               (world_of ls (same_sizes i) ws ns sc (no_incumbent (v i))))))
               ∙ left_is_outcome I f ls says_problem)

@@ -19,10 +19,9 @@ ghost use Rattle.solve_entries.specs.Given.{given_of};
 ghost use Rattle.solve_entries.specs.Inner.Searched.{settled_from};
 
 use inference::Verdict;
-use problem_words::pack;
 use resolved_sort::{Refusal, SortId};
 use search_state::{PROBLEM_WORDS, Search};
-use solve_checks::{Given, Room, test_solve};
+use solve_checks::{Given, Problem, Room, Storage};
 use solve_outputs::{BaseNames, Handout, finish, lengths_of, nothing_taken, pack_solved, sizes_of};
 
 // The search, from the first constraint on, and what comes after it.
@@ -43,35 +42,28 @@ fn run(
     finish(search, handout, names, entry, found)
 }
 
-// Solve on lists that passed their checks.
+// Solve on a problem that passed its checks.
 fn solve_passed(
     sorts: &mut [u16],
     nodes: &mut [u16],
     binds: &mut [u16],
-    exprs: &[u16],
-    names: &[u16],
-    constraints: &[u16],
-    overloads: &[u16],
-    sources: &[u16],
-    given: Given,
+    problem: &Problem<'_>,
     scratch: &mut [u16],
     handout: &mut Handout<'_>,
 ) -> Result<Verdict, Refusal>
-    requires { first_failing (solve_checks (call_with given sorts.old nodes.old binds.old exprs.now names.now
-        constraints.now overloads.now sources.now scratch.old handout.old))
+    requires { first_failing (solve_checks (call_with problem.now sorts.old nodes.old binds.old scratch.old handout.old))
         ≡ Ok tt }
     ensures says { solve_left_with result sorts.new nodes.new binds.new scratch.new handout.new
-        ≡ solve_entry (call_with given sorts.old nodes.old binds.old exprs.now names.now constraints.now
-        overloads.now sources.now scratch.old handout.old) }
+        ≡ solve_entry (call_with problem.now sorts.old nodes.old binds.old scratch.old handout.old) }
     ensures same_reference { SameHandout handout.old handout.new }
 {
-    let lengths = lengths_of(given);
-    let sizes = sizes_of(constraints, given);
+    let lengths = lengths_of(problem.given);
+    let sizes = sizes_of(problem);
     let mut lists = [0; PROBLEM_WORDS];
-    pack(&mut lists, exprs, constraints, overloads, sources, sizes);
+    problem.pack(&mut lists, sizes);
     let names = BaseNames {
-        words: names,
-        count: given.names,
+        words: problem.names,
+        count: problem.given.names,
     };
     let mut search = Search {
         sorts,
@@ -95,18 +87,12 @@ pub fn solve(
     sorts: &mut [u16],
     nodes: &mut [u16],
     binds: &mut [u16],
-    exprs: &[u16],
-    names: &[u16],
-    constraints: &[u16],
-    overloads: &[u16],
-    sources: &[u16],
-    given: Given,
+    problem: &Problem<'_>,
     scratch: &mut [u16],
     handout: &mut Handout<'_>,
 ) -> Result<Verdict, Refusal>
     ensures says { solve_left_with result sorts.new nodes.new binds.new scratch.new handout.new
-        ≡ solve_entry (call_with given sorts.old nodes.old binds.old exprs.now names.now constraints.now
-        overloads.now sources.now scratch.old handout.old) }
+        ≡ solve_entry (call_with problem.now sorts.old nodes.old binds.old scratch.old handout.old) }
     ensures same_reference { SameHandout handout.old handout.new }
 {
     let room = Room {
@@ -115,31 +101,13 @@ pub fn solve(
         measure: handout.measure.len(),
         choices: handout.choices.len(),
     };
-    test_solve(
+    let storage = Storage {
         sorts,
         nodes,
         binds,
-        exprs,
-        names,
-        constraints,
-        overloads,
-        sources,
-        given,
-        room,
-    )?;
-    solve_passed(
-        sorts,
-        nodes,
-        binds,
-        exprs,
-        names,
-        constraints,
-        overloads,
-        sources,
-        given,
-        scratch,
-        handout,
-    )
+    };
+    problem.test_solve(&storage, room)?;
+    solve_passed(sorts, nodes, binds, problem, scratch, handout)
 }
 
 // The entry for callers in other languages: a slice is a pointer and a length, counts are numbers,
@@ -196,17 +164,13 @@ pub extern "C" fn sort_solve(
         measure,
         choices,
     };
-    pack_solved(solve(
-        sorts,
-        nodes,
-        binds,
+    let problem = Problem {
         exprs,
         names,
         constraints,
         overloads,
         sources,
         given,
-        scratch,
-        &mut handout,
-    ))
+    };
+    pack_solved(solve(sorts, nodes, binds, &problem, scratch, &mut handout))
 }

@@ -28,34 +28,35 @@ use Rattle.search_state.specs.Inner.Solving.{Stays, OnlySorts, SameProblem, give
 use Rattle.words.specs.Words.{part}
 use Rattle.words.proofs.Parts.{length_part}
 use Rattle.solve_checks.specs.declared.Given.{Given}
-use Rattle.solve_checks.specs.Inner.Calls.{problem_call, constraint_rows}
+use Rattle.solve_checks.specs.declared.Problem.{Problem}
+use Rattle.solve_checks.specs.Inner.Calls.{call_for, constraint_rows}
 use Rattle.solve_outputs.specs.Inner.Begin.{sizes_of}
 use Rattle.solve_outputs.specs.declared.Handout.{Handout}
 use Rattle.solve_outputs.specs.Inner.Finish.{Answered, answered, settled, solve_left_by, handed_out, Handable}
 use Rattle.solve_outputs.specs.Inner.Handing.{counts_of, told_in, left_in, handing, judging, settling, tidied}
 
-pub sizes_counted : (g : Given) (cs : List ℕ) (n d : ℕ) → n ≡ components (constraint_rows cs g.constraints)
-    → d ≡ length (disjunctions (constraint_rows cs g.constraints))
+pub sizes_counted : (p : Problem) (n d : ℕ) → n ≡ components (constraint_rows p.constraints.now p.given.constraints)
+    → d ≡ length (disjunctions (constraint_rows p.constraints.now p.given.constraints))
     → record {
-      exprs = g.exprs;
-      constraints = g.constraints;
-      overloads = g.overloads;
-      sources = g.sources;
+      exprs = p.given.exprs;
+      constraints = p.given.constraints;
+      overloads = p.given.overloads;
+      sources = p.given.sources;
       components = n;
       disjunctions = d;
-      default = g.default;
+      default = p.given.default;
     }
-    ≡ sizes_of (problem_call g [] [] cs [] [])
+    ≡ sizes_of (call_for p)
 unfolding sizes_of
-sizes_counted g cs n d a b =
+sizes_counted p n d a b =
     λ i. record {
-      exprs = g.exprs;
-      constraints = g.constraints;
-      overloads = g.overloads;
-      sources = g.sources;
+      exprs = p.given.exprs;
+      constraints = p.given.constraints;
+      overloads = p.given.overloads;
+      sources = p.given.sources;
       components = a i;
       disjunctions = b i;
-      default = g.default;
+      default = p.given.default;
     }
 
 -- a choice for each expression

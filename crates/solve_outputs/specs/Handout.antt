@@ -2,15 +2,15 @@
 use Rattle.std.specs.Prelude.{◌≡◌, List, ℕ}
 use Rattle.inference.specs.SolveChecks.{Call}
 use Rattle.inference.specs.SolveEntry.{Solved, SolveLeft}
-use Rattle.solve_checks.specs.declared.Given.{Given}
+use Rattle.solve_checks.specs.declared.Problem.{Problem}
 use Rattle.solve_checks.specs.Call.{call_of}
 use Rattle.solve_outputs.specs.declared.Handout.{Handout}
 use Rattle.solve_outputs.specs.Finish.{solve_left}
 
-abbrev pub call_with :
-    Given → (sorts nodes binds exprs names constraints overloads sources scratch : List ℕ) → Handout → Call
-call_with g ws ns bs xs ks cs os ss sc h =
-    call_of g ws ns bs xs ks cs os ss sc h.typing.now h.measure.now h.choices.now
+abbrev pub call_with : Problem → (sorts nodes binds scratch : List ℕ) → Handout → Call
+call_with p ws ns bs sc h =
+    call_of p.given ws ns bs p.exprs.now p.names.now p.constraints.now p.overloads.now p.sources.now sc h.typing.now
+    h.measure.now h.choices.now
 
 abbrev pub solve_left_with : Solved → (sorts nodes binds scratch : List ℕ) → Handout → SolveLeft
 solve_left_with r ws ns bs sc h = solve_left r ws ns bs sc h.typing.now h.measure.now h.choices.now

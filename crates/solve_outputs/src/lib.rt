@@ -20,7 +20,7 @@ ghost use Rattle.words.specs.Words.{part};
 ghost use Rattle.solve_outputs.specs.Inner.Written.{walked, choice_by, named_rows, no_name, named, base_named};
 ghost use Rattle.solve_outputs.specs.Inner.Written.{name_by_of, chosen_named};
 ghost use Rattle.inference.specs.declared.Verdict.TheVariants.{Typing};
-ghost use Rattle.solve_checks.specs.Inner.Calls.{problem_call};
+ghost use Rattle.solve_checks.specs.Inner.Calls.{call_for};
 ghost use Rattle.solve_checks.specs.Call.{lengths_of};
 ghost use Rattle.solve_outputs.specs.Inner.Begin.{CountsFit, RowsFit, sizes_of, nothing_taken};
 ghost use Rattle.solve_outputs.specs.Packed.{pack_solved, CountsWithin, VerdictWithin, SolvedWithin};
@@ -41,7 +41,7 @@ use resolved_sort::{Counts, ROW_WORDS, Refusal, Run, SortId};
 use search_state::{
     BEST_CHOICES_AT, BEST_MEASURE_AT, BEST_SORTS_AT, Branch, OVERLOADS_AT, Search, Sizes,
 };
-use solve_checks::{Given, components, disjunction_count};
+use solve_checks::{Given, Problem, components, disjunction_count};
 use sort_interner::give_back;
 use unification::{Full, Lengths, NODE_ENTRIES_AT};
 use words::{BIT_8, BIT_24, BIT_40, BIT_52, clear, copy, put, word};
@@ -263,14 +263,14 @@ pub fn lengths_of(given: Given) -> Lengths
 }
 
 // How many rows the lists of the problem have, and how many components and choices a leaf has.
-pub fn sizes_of(constraints: &[u16], given: Given) -> Sizes
-    requires { RowsFit (problem_call given [] [] constraints.now [] []) }
-    ensures { result ≡ sizes_of (problem_call given [] [] constraints.now [] []) }
+pub fn sizes_of(problem: &Problem<'_>) -> Sizes
+    requires { RowsFit (call_for problem.now) }
+    ensures { result ≡ sizes_of (call_for problem.now) }
 {
+    let given = problem.given;
     let count = given.constraints as u16;
-    let parts = components(constraints, count);
-    let choices = disjunction_count(constraints, count);
-    let default = given.default;
+    let parts = components(problem.constraints, count);
+    let choices = disjunction_count(problem.constraints, count);
     Sizes {
         exprs: given.exprs as u16,
         constraints: count,
@@ -278,7 +278,7 @@ pub fn sizes_of(constraints: &[u16], given: Given) -> Sizes
         sources: given.sources as u16,
         components: parts as u16,
         disjunctions: choices as u16,
-        default,
+        default: given.default,
     }
 }
 

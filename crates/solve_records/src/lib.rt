@@ -7,17 +7,18 @@ ghost use Rattle.std.proofs.lemmas.List.Edits.{sets};
 ghost use Rattle.inference.specs.Constraints.{max_overloads, overload_words};
 ghost use Rattle.inference.specs.SolveEntry.{solve_entry};
 ghost use Rattle.solve_checks.specs.Call.{call_of};
-ghost use Rattle.solve_outputs.specs.Handout.{call_with, solve_left_with, SameHandout};
+ghost use Rattle.solve_outputs.specs.Handout.{solve_left_with, SameHandout};
 ghost use Rattle.solve_outputs.specs.Packed.{packed_solve, pack_solve_left};
 ghost use Rattle.solve_entries.specs.Given.{given_of};
 ghost use Rattle.solve_records.specs.Records.{words_of, record_words};
+ghost use Rattle.solve_records.specs.Call.{call_over};
 ghost use Rattle.solve_records.specs.Inner.Records.{record_at, words_from, unpacked, words_of_count};
 
 use inference::{MAX_OVERLOADS, OVERLOAD_WORDS, Verdict};
 use resolved_sort::{Refusal, SortId};
-use solve_checks::Given;
-use solve_entries::{solve, sort_solve};
-use solve_outputs::Handout;
+use solve_checks::{Given, Problem};
+use solve_entries::solve;
+use solve_outputs::{Handout, pack_solved};
 use unification::InferSortId;
 use words::put;
 
@@ -89,62 +90,47 @@ fn at_most(n: usize) -> usize
     if MAX_OVERLOADS < n { MAX_OVERLOADS } else { n }
 }
 
-// The core on the words of n records.
+// The core on the words of n records, in place of the overloads of the problem.
 fn solve_unpacked(
     sorts: &mut [u16],
     nodes: &mut [u16],
     binds: &mut [u16],
-    exprs: &[u16],
-    names: &[u16],
-    constraints: &[u16],
+    problem: &Problem<'_>,
     words: [u16; UNPACKED_WORDS],
     n: usize,
-    sources: &[u16],
-    given: Given,
     scratch: &mut [u16],
     handout: &mut Handout<'_>,
 ) -> Result<Verdict, Refusal>
     ensures says { solve_left_with result sorts.new nodes.new binds.new scratch.new handout.new
-        ≡ solve_entry (call_with given sorts.old nodes.old binds.old exprs.now names.now constraints.now
-        (take (words_of_count n) words) sources.now scratch.old handout.old) }
+        ≡ solve_entry (call_over problem.now (take (words_of_count n) words)
+        sorts.old nodes.old binds.old scratch.old handout.old) }
     ensures same_reference { SameHandout handout.old handout.new }
 {
     let used = OVERLOAD_WORDS * at_most(n);
-    solve(
-        sorts,
-        nodes,
-        binds,
-        exprs,
-        names,
-        constraints,
-        &words[..used],
-        sources,
-        given,
-        scratch,
-        handout,
-    )
+    let unpacked = Problem {
+        overloads: &words[..used],
+        ..*problem
+    };
+    solve(sorts, nodes, binds, &unpacked, scratch, handout)
 }
 
-// Infers the sorts of the expressions, as solve does on the words of the records. Records past the ceiling are not
-// looked at: a count that reaches them is refused with 1, and so is one above the length of the slice. So the first
-// 1,024, of which the contract speaks, stand for all (proofs/PastCeiling.antt).
+// Infers the sorts of the expressions, as solve does on the words of the records: these are the overloads, and those of
+// the problem are not looked at. Records past the ceiling are not looked at: a count that reaches them is refused with
+// 1, and so is one above the length of the slice. So the first 1,024, of which the contract speaks, stand for all
+// (proofs/PastCeiling.antt).
 // Ruled out: another outcome than that of the same call on numbers; a record read past the slice.
 pub fn solve_records(
     sorts: &mut [u16],
     nodes: &mut [u16],
     binds: &mut [u16],
-    exprs: &[u16],
-    names: &[u16],
-    constraints: &[u16],
+    problem: &Problem<'_>,
     overloads: &[OverloadRecord],
-    sources: &[u16],
-    given: Given,
     scratch: &mut [u16],
     handout: &mut Handout<'_>,
 ) -> Result<Verdict, Refusal>
     ensures says { solve_left_with result sorts.new nodes.new binds.new scratch.new handout.new
-        ≡ solve_entry (call_with given sorts.old nodes.old binds.old exprs.now names.now constraints.now
-        (record_words (take max_overloads overloads.now)) sources.now scratch.old handout.old) }
+        ≡ solve_entry (call_over problem.now (record_words (take max_overloads overloads.now))
+        sorts.old nodes.old binds.old scratch.old handout.old) }
     ensures same_reference { SameHandout handout.old handout.new }
 {
     let words = unpack(overloads);
@@ -152,78 +138,11 @@ pub fn solve_records(
         sorts,
         nodes,
         binds,
-        exprs,
-        names,
-        constraints,
+        problem,
         words,
         overloads.len(),
-        sources,
-        given,
         scratch,
         handout,
-    )
-}
-
-// The export of the core on the words of n records.
-fn sort_solve_unpacked(
-    sorts: &mut [u16],
-    sort_count: usize,
-    entry_count: usize,
-    nodes: &mut [u16],
-    node_count: usize,
-    node_entry_count: usize,
-    binds: &mut [u16],
-    var_count: usize,
-    exprs: &[u16],
-    expr_count: usize,
-    names: &[u16],
-    name_count: usize,
-    constraints: &[u16],
-    constraint_count: usize,
-    words: [u16; UNPACKED_WORDS],
-    n: usize,
-    overload_count: usize,
-    sources: &[u16],
-    source_count: usize,
-    default: u16,
-    scratch: &mut [u16],
-    typing: &mut [u16],
-    measure: &mut [u16],
-    choices: &mut [u16],
-) -> u64
-    ensures { packed_solve result sorts.new nodes.new binds.new scratch.new
-        typing.new measure.new choices.new
-        ≡ pack_solve_left (solve_entry (call_of (given_of sort_count entry_count node_count node_entry_count
-        var_count expr_count name_count constraint_count overload_count source_count default)
-        sorts.old nodes.old binds.old exprs.now
-        names.now constraints.now (take (words_of_count n) words) sources.now
-        scratch.old typing.old measure.old choices.old)) }
-{
-    let used = OVERLOAD_WORDS * at_most(n);
-    sort_solve(
-        sorts,
-        sort_count,
-        entry_count,
-        nodes,
-        node_count,
-        node_entry_count,
-        binds,
-        var_count,
-        exprs,
-        expr_count,
-        names,
-        name_count,
-        constraints,
-        constraint_count,
-        &words[..used],
-        overload_count,
-        sources,
-        source_count,
-        default,
-        scratch,
-        typing,
-        measure,
-        choices,
     )
 }
 
@@ -264,31 +183,39 @@ pub extern "C" fn sort_solve_records(
         (record_words (take max_overloads overloads.now)) sources.now
         scratch.old typing.old measure.old choices.old)) }
 {
-    let words = unpack(overloads);
-    sort_solve_unpacked(
-        sorts,
-        sort_count,
-        entry_count,
-        nodes,
-        node_count,
-        node_entry_count,
-        binds,
-        var_count,
+    let given = Given {
+        sorts: sort_count,
+        entries: entry_count,
+        nodes: node_count,
+        arguments: node_entry_count,
+        variables: var_count,
+        exprs: expr_count,
+        names: name_count,
+        constraints: constraint_count,
+        overloads: overload_count,
+        sources: source_count,
+        default: SortId(default),
+    };
+    let problem = Problem {
         exprs,
-        expr_count,
         names,
-        name_count,
         constraints,
-        constraint_count,
-        words,
-        overloads.len(),
-        overload_count,
+        overloads: &[],
         sources,
-        source_count,
-        default,
-        scratch,
+        given,
+    };
+    let mut handout = Handout {
         typing,
         measure,
         choices,
-    )
+    };
+    pack_solved(solve_records(
+        sorts,
+        nodes,
+        binds,
+        &problem,
+        overloads,
+        scratch,
+        &mut handout,
+    ))
 }

@@ -5,29 +5,38 @@ use Rattle.solve_entries.proofs.Laws as law
 use Rattle.solve_entries.proofs.solve_passed.Goals as goal
 
 pub lengths_of-lengths-requires : goal.lengths_of-lengths-requires
-lengths_of-lengths-requires c = law.lengths_fit _ _ _ _ _ _ _ _ _ _ _ _ _ c.requires
+lengths_of-lengths-requires c =
+    let a = c.args in
+    law.lengths_fit a.problem.now a.sorts.now a.nodes.now a.binds.now a.scratch.now a.handout.now c.requires
 
 pub sizes_of-sizes-requires : goal.sizes_of-sizes-requires
-sizes_of-sizes-requires c = law.sizes_fit _ _ _ _ _ _ _ _ _ _ _ _ _ c.requires
+sizes_of-sizes-requires c =
+    let a = c.args in
+    law.sizes_fit a.problem.now a.sorts.now a.nodes.now a.binds.now a.scratch.now a.handout.now c.requires
 
 pub pack-requires : goal.pack-requires
 pack-requires c =
-    law.can_be_packed _ _ _ _ _ _ _ _ _ _ _ _ _ c.requires _ c.sizes_of-sizes.ensures _ (search rules)
+    let a = c.args in
+    law.can_be_packed a.problem.now a.sorts.now a.nodes.now a.binds.now a.scratch.now a.handout.now c.requires _ c.sizes_of-sizes.ensures _ (search rules)
 
 pub invariant_of-names : goal.invariant_of-names
-invariant_of-names c = record { whole = law.names_lent _ _ _ _ _ _ _ _ _ _ _ _ _ c.requires }
+invariant_of-names c =
+    let a = c.args in
+    record { whole = law.names_lent a.problem.now a.sorts.now a.nodes.now a.binds.now a.scratch.now a.handout.now c.requires }
 
 pub run-requires : goal.run-requires
 run-requires c =
-    law.search_asked _ _ _ _ _ _ _ _ _ _ _ _ _ c.requires _ c.sizes_of-sizes.ensures _ c.pack.ensures _
+    let a = c.args in
+    law.search_asked a.problem.now a.sorts.now a.nodes.now a.binds.now a.scratch.now a.handout.now c.requires _ c.sizes_of-sizes.ensures _ c.pack.ensures _
     c.lengths_of-lengths.ensures
 
 pub returns-clause-says : goal.returns-clause-says
 returns-clause-says c =
+    let a = c.args in
     let n = c.run.ensures.same_problem in
     let ws = c.sorts-1.given.1.1 (sym (ap (λ (g : Given). g.sorts) n)) in
     let ns = c.nodes-1.given.1.1 (sym (ap (λ (g : Given). g.nodes) n)) in
     let bs = c.binds-1.given.1.1 (sym (ap (λ (g : Given). g.binds) n)) in
     let sc = c.scratch-1.given.1.1 (sym (ap (λ (g : Given). g.scratch) n)) in
-    rw (ws, ns, bs, sc) (law.is_outcome _ _ _ _ _ _ _ _ _ _ _ _ _ c.requires _ c.sizes_of-sizes.ensures _ c.pack.ensures _
+    rw (ws, ns, bs, sc) (law.is_outcome a.problem.now a.sorts.now a.nodes.now a.binds.now a.scratch.now a.handout.now c.requires _ c.sizes_of-sizes.ensures _ c.pack.ensures _
     c.lengths_of-lengths.ensures _ c.run.ensures.says)

@@ -4,6 +4,5 @@ use Rattle.solve_outputs.proofs.sizes_of.Goals as goal
 
 pub returns : goal.returns
 returns c =
-    let a = c.args in
-    sizes_counted a.given a.constraints.now c.components-parts.result c.disjunction_count-choices.result
+    sizes_counted c.args.problem.now c.components-parts.result c.disjunction_count-choices.result
     c.components-parts.ensures c.disjunction_count-choices.ensures

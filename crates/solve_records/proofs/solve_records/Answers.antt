@@ -1,7 +1,7 @@
 -- The words that are looked at are those of the records up to the ceiling. Assumes nothing.
 use Rattle.std.proofs.Common.{List, ap, length, take, ℕ, ◌∙◌}
 use Rattle.inference.specs.SolveEntry.{solve_entry}
-use Rattle.solve_outputs.specs.Handout.{call_with}
+use Rattle.solve_records.specs.Call.{call_over}
 use Rattle.solve_records.specs.Inner.Records.{words_of_count}
 use Rattle.solve_records.proofs.Unpacked.{words_looked_at}
 use Rattle.solve_records.proofs.solve_records.Goals as goal
@@ -10,7 +10,6 @@ pub returns-clause-says : goal.returns-clause-says
 returns-clause-says c =
     let a = c.args in
     c.solve_unpacked.ensures.says
-    ∙ ap (λ (os : List ℕ). solve_entry (call_with a.given a.sorts.now a.nodes.now a.binds.now a.exprs.now a.names.now
-    a.constraints.now os a.sources.now a.scratch.now a.handout.now))
+    ∙ ap (λ (os : List ℕ). solve_entry (call_over a.problem.now os a.sorts.now a.nodes.now a.binds.now a.scratch.now a.handout.now))
     (ap (λ (l : List ℕ). take (words_of_count (length a.overloads.now)) l) c.unpack-words.ensures
     ∙ words_looked_at a.overloads.now)
