@@ -109,12 +109,12 @@ lines_of_rows :
     ∷ (0 ∷ 0 ∷ 0 ∷ 0 ∷ 0 ∷ 0 ∷ 0 ∷ 0 ∷ 0 ∷ 0 ∷ 0 ∷ 34058 ∷ 65535 ∷ 34112 ∷ 0 ∷ [])
     ∷ []
     ∷ []
-unfolding planned summary told_run told_rows told_put Items.is_of Items.word_of Items.word_at Items.fits Items.list_fits
-    Items.function_fits Plans.grown Lines.is_next Lines.function_plan Lines.parts_row Lines.sort_row Lines.sort_plan
-    Lines.var_plan Lines.vars_plan Lines.bound_plan Lines.bind_plan Lines.node_row Lines.node_plan Lines.expr_plan
-    Lines.name_row Lines.name_plan Lines.default_plan Lines.sub_plan Lines.lit_plan Lines.comprehension_plan
+unfolding planned summary told_run told_rows told_put Items.is_of Items.word_of Items.word_at Items.fits_form Items.list_fits
+    Items.function_fits Plans.grown Lines.is_next Lines.function_plan Lines.parts_row Lines.sort_plan
+    Lines.var_plan Lines.vars_plan Lines.bound_plan Lines.bind_plan Lines.node_plan Lines.expr_plan
+    Lines.name_plan Lines.default_plan Lines.pair_plan Lines.told_line Lines.comprehension_plan
     Lines.disjunction_plan Lines.overload_plan Lines.join_plan Lines.sources_plan Lines.entries_plan Lines.constraint_plan
-    Lines.pad_plan Lines.count_plan Lines.lend_plan Lines.plan_of Words.spelling Words.place_of Words.keyword_of
+    Lines.pad_plan Lines.plan_of Words.spelling Words.place_of Words.keyword_of
     Tokens.decimal_read Tokens.number_read Tokens.name_token Tokens.token_of Tokens.tokens_from same_bytes run past skip
 lines_of_rows = refl
 
@@ -194,11 +194,11 @@ lines_of_constraints :
     ∷ []
     ∷ []
     ∷ []
-unfolding planned summary told_run told_rows told_put Items.is_of Items.word_of Items.word_at Items.fits Items.list_fits
-    Items.function_fits Plans.grown Lines.is_next Lines.function_plan Lines.parts_row Lines.sort_row Lines.sort_plan
-    Lines.var_plan Lines.vars_plan Lines.bound_plan Lines.bind_plan Lines.node_row Lines.node_plan Lines.expr_plan
-    Lines.name_row Lines.name_plan Lines.default_plan Lines.sub_plan Lines.lit_plan Lines.comprehension_plan
+unfolding planned summary told_run told_rows told_put Items.is_of Items.word_of Items.word_at Items.fits_form Items.list_fits
+    Items.function_fits Plans.grown Lines.is_next Lines.function_plan Lines.parts_row Lines.sort_plan
+    Lines.var_plan Lines.vars_plan Lines.bound_plan Lines.bind_plan Lines.node_plan Lines.expr_plan
+    Lines.name_plan Lines.default_plan Lines.pair_plan Lines.told_line Lines.comprehension_plan
     Lines.disjunction_plan Lines.overload_plan Lines.join_plan Lines.sources_plan Lines.entries_plan Lines.constraint_plan
-    Lines.pad_plan Lines.count_plan Lines.lend_plan Lines.plan_of Words.spelling Words.place_of Words.keyword_of
+    Lines.pad_plan Lines.plan_of Words.spelling Words.place_of Words.keyword_of
     Tokens.decimal_read Tokens.number_read Tokens.name_token Tokens.token_of Tokens.tokens_from same_bytes run past skip
 lines_of_constraints = refl

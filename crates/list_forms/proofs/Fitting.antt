@@ -7,10 +7,10 @@ use borrow.Author.Tests.{eq-eqb}
 use Rattle.std.specs.List.{list_all, zip}
 use Rattle.list_tokens.specs.declared.Token.{Token}
 use Rattle.list_forms.specs.declared.Item.{Item}
-use Rattle.list_forms.specs.Items.{is_of, fits}
+use Rattle.list_forms.specs.Items.{is_of, fits_form}
 
 pub fits_at_a_length :
     (t : List Token) (form : List Item) → length t ≡ length form
-    → (r : Bool) → r ≡ list_all (λ p. is_of p.0 p.1) (zip form t) → r ≡ fits t form
-unfolding fits
+    → (r : Bool) → r ≡ list_all (λ p. is_of p.0 p.1) (zip form t) → r ≡ fits_form t form
+unfolding fits_form
 fits_at_a_length t form e r h = rw (eq-eqb _ _ e) h

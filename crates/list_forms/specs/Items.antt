@@ -34,33 +34,33 @@ is_literal Keyword.Natural = true
 is_literal k = false
 
 -- the table that a word of `count` names, and the slice that a word of `lend` names
-abbrev pub table_of : Token → Option Table
-table_of (Token.Keyword Keyword.Sorts) = Some Table.Sorts
-table_of (Token.Keyword Keyword.Entries) = Some Table.Entries
-table_of (Token.Keyword Keyword.Nodes) = Some Table.Nodes
-table_of (Token.Keyword Keyword.NodeEntries) = Some Table.NodeEntries
-table_of (Token.Keyword Keyword.Vars) = Some Table.Vars
-table_of (Token.Keyword Keyword.Exprs) = Some Table.Exprs
-table_of (Token.Keyword Keyword.Names) = Some Table.Names
-table_of (Token.Keyword Keyword.Constraints) = Some Table.Constraints
-table_of (Token.Keyword Keyword.Overloads) = Some Table.Overloads
-table_of (Token.Keyword Keyword.Sources) = Some Table.Sources
-table_of t = None
+abbrev pub table_named : Token → Option Table
+table_named (Token.Keyword Keyword.Sorts) = Some Table.Sorts
+table_named (Token.Keyword Keyword.Entries) = Some Table.Entries
+table_named (Token.Keyword Keyword.Nodes) = Some Table.Nodes
+table_named (Token.Keyword Keyword.NodeEntries) = Some Table.NodeEntries
+table_named (Token.Keyword Keyword.Vars) = Some Table.Vars
+table_named (Token.Keyword Keyword.Exprs) = Some Table.Exprs
+table_named (Token.Keyword Keyword.Names) = Some Table.Names
+table_named (Token.Keyword Keyword.Constraints) = Some Table.Constraints
+table_named (Token.Keyword Keyword.Overloads) = Some Table.Overloads
+table_named (Token.Keyword Keyword.Sources) = Some Table.Sources
+table_named t = None
 
-abbrev pub slice_of : Token → Option Slice
-slice_of (Token.Keyword Keyword.Sorts) = Some Slice.Sorts
-slice_of (Token.Keyword Keyword.Nodes) = Some Slice.Nodes
-slice_of (Token.Keyword Keyword.Bindings) = Some Slice.Bindings
-slice_of (Token.Keyword Keyword.Exprs) = Some Slice.Exprs
-slice_of (Token.Keyword Keyword.Names) = Some Slice.Names
-slice_of (Token.Keyword Keyword.Constraints) = Some Slice.Constraints
-slice_of (Token.Keyword Keyword.Overloads) = Some Slice.Overloads
-slice_of (Token.Keyword Keyword.Sources) = Some Slice.Sources
-slice_of (Token.Keyword Keyword.Scratch) = Some Slice.Scratch
-slice_of (Token.Keyword Keyword.OutTyping) = Some Slice.Typing
-slice_of (Token.Keyword Keyword.OutMeasure) = Some Slice.Measure
-slice_of (Token.Keyword Keyword.OutChoices) = Some Slice.Choices
-slice_of t = None
+abbrev pub slice_named : Token → Option Slice
+slice_named (Token.Keyword Keyword.Sorts) = Some Slice.Sorts
+slice_named (Token.Keyword Keyword.Nodes) = Some Slice.Nodes
+slice_named (Token.Keyword Keyword.Bindings) = Some Slice.Bindings
+slice_named (Token.Keyword Keyword.Exprs) = Some Slice.Exprs
+slice_named (Token.Keyword Keyword.Names) = Some Slice.Names
+slice_named (Token.Keyword Keyword.Constraints) = Some Slice.Constraints
+slice_named (Token.Keyword Keyword.Overloads) = Some Slice.Overloads
+slice_named (Token.Keyword Keyword.Sources) = Some Slice.Sources
+slice_named (Token.Keyword Keyword.Scratch) = Some Slice.Scratch
+slice_named (Token.Keyword Keyword.OutTyping) = Some Slice.Typing
+slice_named (Token.Keyword Keyword.OutMeasure) = Some Slice.Measure
+slice_named (Token.Keyword Keyword.OutChoices) = Some Slice.Choices
+slice_named t = None
 
 -- the places of nodes are words: the greatest is max_sorts above the greatest node
 abbrev pub node_places : ℕ
@@ -144,8 +144,8 @@ unfoldable pub word_at : List Token → ℕ → ℕ
 word_at t i = word_of (token_at t i)
 
 -- the words of a line are of the items, one for one, and no more
-unfoldable pub fits : List Token → List Item → Bool
-fits t form = eqb (length t) (length form) && list_all (λ p. is_of p.0 p.1) (zip form t)
+unfoldable pub fits_form : List Token → List Item → Bool
+fits_form t form = eqb (length t) (length form) && list_all (λ p. is_of p.0 p.1) (zip form t)
 
 abbrev pub all_of : Item → List Token → Bool
 all_of item ts = list_all (is_of item) ts

@@ -1,9 +1,10 @@
 -- What each line of a list gives, in the order of the tables of docs/FORMAT.md, or what was expected instead. ws are the
 -- words of the list so far, t the words of the line.
-use Rattle.std.specs.Prelude.{Bool, true, false, cond, List, [], ◌∷◌, ℕ, ◌+◌, ◌-◌, ltb, eqb, length, get_or, Option, Some, None, Result, Ok, Err}
+use Rattle.std.specs.Prelude.{Bool, true, false, cond, ltb, eqb, ℕ, ◌+◌, ◌-◌, List, [], ◌∷◌, length, get_or}
+use Rattle.std.specs.Prelude.{Option, Some, None, Result, Ok, Err}
+use Rattle.std.specs.Option.{option_map}
 use Rattle.list_memory.specs.declared.Form.{Form}
 use Rattle.list_memory.specs.declared.Table.{Table}
-use Rattle.list_memory.specs.declared.Slice.{Slice}
 use Rattle.list_memory.specs.declared.LastConstraint.{LastConstraint}
 use Rattle.resolved_sort.specs.Storage.{function_kind, def_kind, last_kind}
 use Rattle.unification.specs.Nodes.{max_vars, variable_kind, free_word}
@@ -17,8 +18,8 @@ use Rattle.list_forms.specs.declared.Item.TheVariants.{Number, Sort, Node, Var, 
 use Rattle.list_forms.specs.declared.Target.{Target}
 use Rattle.list_forms.specs.declared.ConstraintKind.{ConstraintKind}
 use Rattle.list_forms.specs.declared.Plan.{Plan}
-use Rattle.list_forms.specs.Items.{table_of, slice_of, token_at, word_at, fits, list_fits, function_fits}
-use Rattle.list_forms.specs.Plans.{nothing, rows_plan, row_plan, with_free, with_run, put_at, with_put, told_plan, capped, grown}
+use Rattle.list_forms.specs.Items.{table_named, slice_named, token_at, keyword_word, word_at, fits_form, list_fits, function_fits}
+use Rattle.list_forms.specs.Plans.{nothing, rows_plan, row_plan, with_free, with_run, put_at, with_put, told_plan, saturated, grown}
 
 abbrev pub five_words : (a b c d e : ℕ) → List ℕ
 five_words a b c d e = a ∷ b ∷ c ∷ d ∷ e ∷ []
@@ -37,28 +38,21 @@ is_next ws (Token.Var n) Table.Vars = eqb n (rows_given ws (table_number Table.V
 is_next ws (Token.Expr n) Table.Exprs = eqb n (rows_given ws (table_number Table.Exprs))
 is_next ws t k = false
 
--- the kind of `List`, of which are the nodes that `pad` makes, and their sort `Bool`
-abbrev pub list_kind : ℕ
-list_kind = 6
-
-abbrev pub bool_sort : ℕ
-bool_sort = 1
-
 -- a function row of a table, with its arguments in another
 unfoldable pub function_plan : List ℕ → List Token → Table → Table → Plan
 function_plan ws t table entries =
     with_run
     (row_plan table
-    (five_words function_kind (word_at t (length t - 1)) (rows_given ws (table_number entries)) (capped (length t - 5)) 0))
+    (five_words function_kind (word_at t (length t - 1)) (rows_given ws (table_number entries)) (saturated (length t - 5)) 0))
     entries 3 (length t - 2)
 
 -- what sorts and nodes share: `KEYWORD NAME List X`, `KEYWORD NAME fn X ... -> X`, `KEYWORD NAME raw KIND PART START COUNT`
 unfoldable pub parts_row : List ℕ → List Token → Keyword → Item → Item → Table → Table → Option Plan
 parts_row ws t keyword name part table entries =
-    cond (fits t (word keyword ∷ name ∷ Container ∷ part ∷ []))
+    cond (fits_form t (word keyword ∷ name ∷ Container ∷ part ∷ []))
     (Some (row_plan table (five_words (word_at t 2) (word_at t 3) 0 0 0)))
     (cond (function_fits t part) (Some (function_plan ws t table entries))
-    (cond (fits t (word keyword ∷ name ∷ word Keyword.Raw ∷ Number ∷ Number ∷ Number ∷ Number ∷ []))
+    (cond (fits_form t (word keyword ∷ name ∷ word Keyword.Raw ∷ Number ∷ Number ∷ Number ∷ Number ∷ []))
     (Some (row_plan table (five_words (word_at t 3) (word_at t 4) (word_at t 5) (word_at t 6) 0)))
     None))
 
@@ -66,24 +60,24 @@ parts_row ws t keyword name part table entries =
 abbrev pub sort_row_by : Option Plan → List Token → Result Plan Form
 sort_row_by (Some p) t = Ok p
 sort_row_by None t =
-    cond (fits t (word Keyword.Sort ∷ Sort ∷ word Keyword.Def ∷ Number ∷ []))
+    cond (fits_form t (word Keyword.Sort ∷ Sort ∷ word Keyword.Def ∷ Number ∷ []))
     (Ok (row_plan Table.Sorts (five_words def_kind (word_at t 3) 0 0 0)))
-    (cond (fits t (word Keyword.Sort ∷ Sort ∷ word Keyword.TypeVar ∷ Number ∷ []))
+    (cond (fits_form t (word Keyword.Sort ∷ Sort ∷ word Keyword.TypeVar ∷ Number ∷ []))
     (Ok (row_plan Table.Sorts (five_words last_kind (word_at t 3) 0 0 0)))
-    (cond (fits t (word Keyword.Sort ∷ Sort ∷ FixedSort ∷ []))
+    (cond (fits_form t (word Keyword.Sort ∷ Sort ∷ FixedSort ∷ []))
     (Ok (row_plan Table.Sorts (five_words (word_at t 2) 0 0 0 0)))
     (expected Form.Sort)))
 
-unfoldable pub sort_row : List ℕ → List Token → Result Plan Form
-sort_row ws t = sort_row_by (parts_row ws t Keyword.Sort Sort Sort Table.Sorts Table.Entries) t
-
 unfoldable pub sort_plan : List ℕ → List Token → Result Plan Form
-sort_plan ws t = cond (is_next ws (token_at t 1) Table.Sorts) (sort_row ws t) (expected Form.Next)
+sort_plan ws t =
+    cond (is_next ws (token_at t 1) Table.Sorts)
+    (sort_row_by (parts_row ws t Keyword.Sort Sort Sort Table.Sorts Table.Entries) t)
+    (expected Form.Next)
 
 -- var vK nJ
 unfoldable pub var_plan : List ℕ → List Token → Result Plan Form
 var_plan ws t =
-    cond (fits t (word Keyword.Var ∷ Var ∷ Node ∷ []))
+    cond (fits_form t (word Keyword.Var ∷ Var ∷ Node ∷ []))
     (cond (is_next ws (token_at t 1) Table.Vars)
     (cond (is_next ws (token_at t 2) Table.Nodes)
     (Ok (with_free 1 (row_plan Table.Nodes (five_words variable_kind (word_at t 1) 0 0 0))))
@@ -94,7 +88,7 @@ var_plan ws t =
 -- vars N
 unfoldable pub vars_plan : List Token → Result Plan Form
 vars_plan t =
-    cond (fits t (word Keyword.Vars ∷ Number ∷ [])) (Ok (with_free (word_at t 1) nothing)) (expected Form.Vars)
+    cond (fits_form t (word Keyword.Vars ∷ Number ∷ [])) (Ok (with_free (word_at t 1) nothing)) (expected Form.Vars)
 
 -- "the given binding of a variable of a line above; at most one". A variable past the ceiling has no word, so that a
 -- second binding of it is not seen; such a list is refused with 1, unless a `count` line tells fewer.
@@ -110,27 +104,27 @@ bound_plan ws v p =
 -- bind vN P
 unfoldable pub bind_plan : List ℕ → List Token → Result Plan Form
 bind_plan ws t =
-    cond (fits t (word Keyword.Bind ∷ Var ∷ Place ∷ [])) (bound_plan ws (word_at t 1) (word_at t 2)) (expected Form.Bind)
+    cond (fits_form t (word Keyword.Bind ∷ Var ∷ Place ∷ [])) (bound_plan ws (word_at t 1) (word_at t 2)) (expected Form.Bind)
 
 -- node nK var vN, and what sorts have too
 abbrev pub node_row_by : Option Plan → List Token → Result Plan Form
 node_row_by (Some p) t = Ok p
 node_row_by None t =
-    cond (fits t (word Keyword.Node ∷ Node ∷ word Keyword.Var ∷ Var ∷ []))
+    cond (fits_form t (word Keyword.Node ∷ Node ∷ word Keyword.Var ∷ Var ∷ []))
     (Ok (row_plan Table.Nodes (five_words variable_kind (word_at t 3) 0 0 0)))
     (expected Form.Node)
 
-unfoldable pub node_row : List ℕ → List Token → Result Plan Form
-node_row ws t = node_row_by (parts_row ws t Keyword.Node Node Place Table.Nodes Table.NodeEntries) t
-
 unfoldable pub node_plan : List ℕ → List Token → Result Plan Form
-node_plan ws t = cond (is_next ws (token_at t 1) Table.Nodes) (node_row ws t) (expected Form.Next)
+node_plan ws t =
+    cond (is_next ws (token_at t 1) Table.Nodes)
+    (node_row_by (parts_row ws t Keyword.Node Node Place Table.Nodes Table.NodeEntries) t)
+    (expected Form.Next)
 
 -- expr eK P
 unfoldable pub expr_plan : List ℕ → List Token → Result Plan Form
 expr_plan ws t =
     cond (is_next ws (token_at t 1) Table.Exprs)
-    (cond (fits t (word Keyword.Expr ∷ Expr ∷ Place ∷ []))
+    (cond (fits_form t (word Keyword.Expr ∷ Expr ∷ Place ∷ []))
     (Ok (row_plan Table.Exprs (five_words (word_at t 2) 0 0 0 0)))
     (expected Form.Expr))
     (expected Form.Next)
@@ -149,15 +143,15 @@ constraint_number ConstraintKind.Comprehension = 3
 constraint_number ConstraintKind.Join = 4
 
 -- name eN variable, name eN builtin, name eN op S, name eN raw KIND SORT; the program holds max_names base names
-unfoldable pub name_row : List Token → Result Plan Form
+abbrev pub name_row : List Token → Result Plan Form
 name_row t =
-    cond (fits t (word Keyword.Name ∷ Expr ∷ word Keyword.Variable ∷ []))
+    cond (fits_form t (word Keyword.Name ∷ Expr ∷ word Keyword.Variable ∷ []))
     (Ok (row_plan Table.Names (five_words (word_at t 1) (target_number Target.Variable) 0 0 0)))
-    (cond (fits t (word Keyword.Name ∷ Expr ∷ word Keyword.Builtin ∷ []))
+    (cond (fits_form t (word Keyword.Name ∷ Expr ∷ word Keyword.Builtin ∷ []))
     (Ok (row_plan Table.Names (five_words (word_at t 1) (target_number Target.Builtin) 0 0 0)))
-    (cond (fits t (word Keyword.Name ∷ Expr ∷ word Keyword.Op ∷ Sort ∷ []))
+    (cond (fits_form t (word Keyword.Name ∷ Expr ∷ word Keyword.Op ∷ Sort ∷ []))
     (Ok (row_plan Table.Names (five_words (word_at t 1) (target_number Target.Op) (word_at t 3) 0 0)))
-    (cond (fits t (word Keyword.Name ∷ Expr ∷ word Keyword.Raw ∷ Number ∷ Number ∷ []))
+    (cond (fits_form t (word Keyword.Name ∷ Expr ∷ word Keyword.Raw ∷ Number ∷ Number ∷ []))
     (Ok (row_plan Table.Names (five_words (word_at t 1) (word_at t 3) (word_at t 4) 0 0)))
     (expected Form.Name))))
 
@@ -167,35 +161,32 @@ name_plan ws t = cond (ltb (rows_given ws name_list) max_names) (name_row t) (ex
 -- default S
 unfoldable pub default_plan : List Token → Result Plan Form
 default_plan t =
-    cond (fits t (word Keyword.Default ∷ Sort ∷ []))
+    cond (fits_form t (word Keyword.Default ∷ Sort ∷ []))
     (Ok (with_put nothing (put_at default_at (word_at t 1)))) (expected Form.Default)
 
 -- a constraint row, and what kind of line it is of
 abbrev pub constraint_row : List ℕ → LastConstraint → Plan
 constraint_row r last = with_put (row_plan Table.Constraints r) (put_at last_at (last_number last))
 
+-- a keyword, a place and an item
+unfoldable pub pair_plan : List Token → Keyword → Item → ConstraintKind → Form → Result Plan Form
+pair_plan t keyword item kind form =
+    cond (fits_form t (word keyword ∷ Place ∷ item ∷ []))
+    (Ok (constraint_row (five_words (constraint_number kind) (word_at t 1) (word_at t 2) 0 0) LastConstraint.Other))
+    (expected form)
+
 -- sub P P
-unfoldable pub sub_plan : List Token → Result Plan Form
-sub_plan t =
-    cond (fits t (word Keyword.Sub ∷ Place ∷ Place ∷ []))
-    (Ok
-    (constraint_row (five_words (constraint_number ConstraintKind.Sub) (word_at t 1) (word_at t 2) 0 0)
-    LastConstraint.Other))
-    (expected Form.Sub)
+abbrev pub sub_plan : List Token → Result Plan Form
+sub_plan t = pair_plan t Keyword.Sub Place ConstraintKind.Sub Form.Sub
 
 -- lit P positive, lit P natural
-unfoldable pub lit_plan : List Token → Result Plan Form
-lit_plan t =
-    cond (fits t (word Keyword.Lit ∷ Place ∷ Literal ∷ []))
-    (Ok
-    (constraint_row (five_words (constraint_number ConstraintKind.Lit) (word_at t 1) (word_at t 2) 0 0)
-    LastConstraint.Other))
-    (expected Form.Lit)
+abbrev pub lit_plan : List Token → Result Plan Form
+lit_plan t = pair_plan t Keyword.Lit Literal ConstraintKind.Lit Form.Lit
 
 -- comprehension P P S
 unfoldable pub comprehension_plan : List Token → Result Plan Form
 comprehension_plan t =
-    cond (fits t (word Keyword.Comprehension ∷ Place ∷ Place ∷ Sort ∷ []))
+    cond (fits_form t (word Keyword.Comprehension ∷ Place ∷ Place ∷ Sort ∷ []))
     (Ok
     (constraint_row
     (five_words (constraint_number ConstraintKind.Comprehension) (word_at t 1) (word_at t 2) (word_at t 3) 0)
@@ -205,7 +196,7 @@ comprehension_plan t =
 -- disjunction eN P
 unfoldable pub disjunction_plan : List ℕ → List Token → Result Plan Form
 disjunction_plan ws t =
-    cond (fits t (word Keyword.Disjunction ∷ Expr ∷ Place ∷ []))
+    cond (fits_form t (word Keyword.Disjunction ∷ Expr ∷ Place ∷ []))
     (Ok
     (constraint_row
     (five_words (constraint_number ConstraintKind.Disjunction) (word_at t 1) (word_at t 2) (rows_given ws overload_list) 0)
@@ -219,13 +210,13 @@ overload_row ws r = with_put (row_plan Table.Overloads r) (grown ws LastConstrai
 -- overload variable P, overload builtin P, overload op S P, overload raw KIND SORT PLACE
 unfoldable pub overload_plan : List ℕ → List Token → Result Plan Form
 overload_plan ws t =
-    cond (fits t (word Keyword.Overload ∷ word Keyword.Variable ∷ Place ∷ []))
+    cond (fits_form t (word Keyword.Overload ∷ word Keyword.Variable ∷ Place ∷ []))
     (Ok (overload_row ws (five_words (target_number Target.Variable) 0 (word_at t 2) 0 0)))
-    (cond (fits t (word Keyword.Overload ∷ word Keyword.Builtin ∷ Place ∷ []))
+    (cond (fits_form t (word Keyword.Overload ∷ word Keyword.Builtin ∷ Place ∷ []))
     (Ok (overload_row ws (five_words (target_number Target.Builtin) 0 (word_at t 2) 0 0)))
-    (cond (fits t (word Keyword.Overload ∷ word Keyword.Op ∷ Sort ∷ Place ∷ []))
+    (cond (fits_form t (word Keyword.Overload ∷ word Keyword.Op ∷ Sort ∷ Place ∷ []))
     (Ok (overload_row ws (five_words (target_number Target.Op) (word_at t 2) (word_at t 3) 0 0)))
-    (cond (fits t (word Keyword.Overload ∷ word Keyword.Raw ∷ Number ∷ Number ∷ Number ∷ []))
+    (cond (fits_form t (word Keyword.Overload ∷ word Keyword.Raw ∷ Number ∷ Number ∷ Number ∷ []))
     (Ok (overload_row ws (five_words (word_at t 2) (word_at t 3) (word_at t 4) 0 0)))
     (expected Form.Overload))))
 
@@ -236,7 +227,7 @@ join_plan ws t =
     (Ok
     (with_run
     (constraint_row
-    (five_words (constraint_number ConstraintKind.Join) (word_at t 1) (rows_given ws source_list) (capped (length t - 2)) 0)
+    (five_words (constraint_number ConstraintKind.Join) (word_at t 1) (rows_given ws source_list) (saturated (length t - 2)) 0)
     LastConstraint.Join)
     Table.Sources 2 (length t)))
     (expected Form.Join)
@@ -246,7 +237,7 @@ unfoldable pub sources_plan : List ℕ → List Token → Result Plan Form
 sources_plan ws t =
     cond (list_fits t Place)
     (Ok
-    (with_put (with_run nothing Table.Sources 1 (length t)) (grown ws LastConstraint.Join 3 (capped (length t - 1)))))
+    (with_put (with_run nothing Table.Sources 1 (length t)) (grown ws LastConstraint.Join 3 (saturated (length t - 1)))))
     (expected Form.Sources)
 
 -- entries N ..., node-entries N ...
@@ -256,7 +247,7 @@ entries_plan t k f = cond (list_fits t Number) (Ok (with_run nothing k 1 (length
 -- constraint KIND A B C D
 unfoldable pub constraint_plan : List Token → Result Plan Form
 constraint_plan t =
-    cond (fits t (word Keyword.Constraint ∷ Number ∷ Number ∷ Number ∷ Number ∷ Number ∷ []))
+    cond (fits_form t (word Keyword.Constraint ∷ Number ∷ Number ∷ Number ∷ Number ∷ Number ∷ []))
     (Ok
     (constraint_row (five_words (word_at t 1) (word_at t 2) (word_at t 3) (word_at t 4) (word_at t 5))
     LastConstraint.Other))
@@ -265,35 +256,33 @@ constraint_plan t =
 -- pad sorts N: sort number K is Def K; pad nodes N: List Bool; pad entries N, pad node-entries N: all 0
 unfoldable pub pad_plan : List ℕ → List Token → Result Plan Form
 pad_plan ws t =
-    cond (fits t (word Keyword.Pad ∷ word Keyword.Sorts ∷ Number ∷ []))
-    (Ok (rows_plan Table.Sorts (word_at t 2) true (five_words def_kind (rows_given ws sort_list) 0 0 0)))
-    (cond (fits t (word Keyword.Pad ∷ word Keyword.Nodes ∷ Number ∷ []))
-    (Ok (rows_plan Table.Nodes (word_at t 2) false (five_words list_kind bool_sort 0 0 0)))
-    (cond (fits t (word Keyword.Pad ∷ word Keyword.Entries ∷ Number ∷ []))
-    (Ok (rows_plan Table.Entries (word_at t 2) false (five_words 0 0 0 0 0)))
-    (cond (fits t (word Keyword.Pad ∷ word Keyword.NodeEntries ∷ Number ∷ []))
-    (Ok (rows_plan Table.NodeEntries (word_at t 2) false (five_words 0 0 0 0 0)))
+    cond (fits_form t (word Keyword.Pad ∷ word Keyword.Sorts ∷ Number ∷ []))
+    (Ok (rows_plan Table.Sorts (word_at t 2) 1 (five_words def_kind (rows_given ws sort_list) 0 0 0)))
+    (cond (fits_form t (word Keyword.Pad ∷ word Keyword.Nodes ∷ Number ∷ []))
+    (Ok (rows_plan Table.Nodes (word_at t 2) 0 (five_words (keyword_word Keyword.ListOf) (keyword_word Keyword.Bool) 0 0 0)))
+    (cond (fits_form t (word Keyword.Pad ∷ word Keyword.Entries ∷ Number ∷ []))
+    (Ok (rows_plan Table.Entries (word_at t 2) 0 (five_words 0 0 0 0 0)))
+    (cond (fits_form t (word Keyword.Pad ∷ word Keyword.NodeEntries ∷ Number ∷ []))
+    (Ok (rows_plan Table.NodeEntries (word_at t 2) 0 (five_words 0 0 0 0 0)))
     (expected Form.Pad))))
 
--- count WHAT N
-abbrev pub counted : Option Table → ℕ → Result Plan Form
-counted (Some k) n = Ok (told_plan (counts_at + table_number k) n (counts_told_at + table_number k))
-counted None n = expected Form.Count
+-- a word told, by the number of what the line names
+abbrev pub told_by : Option ℕ → ℕ → ℕ → ℕ → Form → Result Plan Form
+told_by (Some k) n at told_at form = Ok (told_plan (at + k) n (told_at + k))
+told_by None n at told_at form = expected form
 
-unfoldable pub count_plan : List Token → Result Plan Form
-count_plan t =
-    cond (fits t (word Keyword.Count ∷ AnyWord ∷ Number ∷ []))
-    (counted (table_of (token_at t 1)) (word_at t 2)) (expected Form.Count)
+unfoldable pub told_line : List Token → Keyword → Option ℕ → ℕ → ℕ → Form → Result Plan Form
+told_line t keyword number at told_at form =
+    cond (fits_form t (word keyword ∷ AnyWord ∷ Number ∷ []))
+    (told_by number (word_at t 2) at told_at form) (expected form)
+
+-- count WHAT N
+abbrev pub count_plan : List Token → Result Plan Form
+count_plan t = told_line t Keyword.Count (option_map table_number (table_named (token_at t 1))) counts_at counts_told_at Form.Count
 
 -- lend WHAT N
-abbrev pub lent : Option Slice → ℕ → Result Plan Form
-lent (Some j) n = Ok (told_plan (lent_at + slice_number j) n (lent_told_at + slice_number j))
-lent None n = expected Form.Lend
-
-unfoldable pub lend_plan : List Token → Result Plan Form
-lend_plan t =
-    cond (fits t (word Keyword.Lend ∷ AnyWord ∷ Number ∷ []))
-    (lent (slice_of (token_at t 1)) (word_at t 2)) (expected Form.Lend)
+abbrev pub lend_plan : List Token → Result Plan Form
+lend_plan t = told_line t Keyword.Lend (option_map slice_number (slice_named (token_at t 1))) lent_at lent_told_at Form.Lend
 
 -- by the line's first word; "for the counting oracle only" are ceilings
 abbrev pub plan_by : Token → List ℕ → List Token → Result Plan Form
@@ -327,9 +316,9 @@ plan_of ws t = plan_by (token_at t 0) ws t
 -- whether `?` has one of the other questions: unify P P, or two sorts
 unfoldable pub asks_other : List Token → Bool
 asks_other t =
-    cond (fits t (word Keyword.Ask ∷ word Keyword.Unify ∷ Place ∷ Place ∷ [])) true
-    (cond (fits t (word Keyword.Ask ∷ word Keyword.PartialCmp ∷ Sort ∷ Sort ∷ [])) true
-    (cond (fits t (word Keyword.Ask ∷ word Keyword.Join ∷ Sort ∷ Sort ∷ [])) true
-    (cond (fits t (word Keyword.Ask ∷ word Keyword.Meet ∷ Sort ∷ Sort ∷ [])) true
-    (cond (fits t (word Keyword.Ask ∷ word Keyword.WideningDistance ∷ Sort ∷ Sort ∷ [])) true
-    (fits t (word Keyword.Ask ∷ word Keyword.IsMaterializable ∷ Sort ∷ Sort ∷ []))))))
+    cond (fits_form t (word Keyword.Ask ∷ word Keyword.Unify ∷ Place ∷ Place ∷ [])) true
+    (cond (fits_form t (word Keyword.Ask ∷ word Keyword.PartialCmp ∷ Sort ∷ Sort ∷ [])) true
+    (cond (fits_form t (word Keyword.Ask ∷ word Keyword.Join ∷ Sort ∷ Sort ∷ [])) true
+    (cond (fits_form t (word Keyword.Ask ∷ word Keyword.Meet ∷ Sort ∷ Sort ∷ [])) true
+    (cond (fits_form t (word Keyword.Ask ∷ word Keyword.WideningDistance ∷ Sort ∷ Sort ∷ [])) true
+    (fits_form t (word Keyword.Ask ∷ word Keyword.IsMaterializable ∷ Sort ∷ Sort ∷ []))))))

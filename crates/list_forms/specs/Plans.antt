@@ -1,5 +1,5 @@
 -- What a line gives: rows, free variables, words of the line as rows, words set; or what was expected instead.
-use Rattle.std.specs.Prelude.{Bool, false, cond, List, ℕ, ◌+◌, ◌-◌, ◌*◌, ltb, eqb, get_or, Option, Some, None}
+use Rattle.std.specs.Prelude.{cond, List, ℕ, ◌+◌, ◌-◌, ◌*◌, ltb, eqb, get_or, Option, Some, None}
 use Rattle.inference.specs.Constraints.{max_constraints}
 use Rattle.list_memory.specs.declared.Table.{Table}
 use Rattle.list_memory.specs.declared.LastConstraint.{LastConstraint}
@@ -12,20 +12,20 @@ use Rattle.list_forms.specs.declared.Plan.{Plan}
 abbrev pub nothing : Plan
 nothing = record { free = 0; run = None; rows = None; put = None; told = None }
 
--- so many rows of a table, the second word rising or not
-abbrev pub rows_plan : Table → ℕ → Bool → List ℕ → Plan
-rows_plan k n rising row =
+-- so many rows of a table, whose second word grows by a step
+abbrev pub rows_plan : Table → ℕ → ℕ → List ℕ → Plan
+rows_plan k n step row =
     record {
       free = 0;
       run = None;
-      rows = Some (record { table = k; times = n; rising = rising; row = row });
+      rows = Some (record { table = k; times = n; step = step; row = row });
       put = None;
       told = None;
     }
 
 -- one row of a table
 abbrev pub row_plan : Table → List ℕ → Plan
-row_plan k row = rows_plan k 1 false row
+row_plan k row = rows_plan k 1 0 row
 
 -- and free variables before it
 abbrev pub with_free : ℕ → Plan → Plan
@@ -54,8 +54,8 @@ abbrev pub told_plan : ℕ → ℕ → ℕ → Plan
 told_plan at v told_at = record { free = 0; run = None; rows = None; put = put_at at v; told = put_at told_at 1 }
 
 -- a count that stops where counts of rows do
-abbrev pub capped : ℕ → ℕ
-capped n = cond (ltb most_rows n) most_rows n
+abbrev pub saturated : ℕ → ℕ
+saturated n = cond (ltb most_rows n) most_rows n
 
 -- word i of the last constraint row, where it is kept
 abbrev pub last_row_at : List ℕ → ℕ → ℕ
@@ -67,5 +67,5 @@ grown ws last i n =
     cond (eqb (get_or ws last_at 0) (last_number last))
     (cond (eqb (rows_given ws constraint_list) 0) None
     (cond (ltb max_constraints (rows_given ws constraint_list)) None
-    (put_at (last_row_at ws i) (capped (get_or ws (last_row_at ws i) 0 + n)))))
+    (put_at (last_row_at ws i) (saturated (get_or ws (last_row_at ws i) 0 + n)))))
     None

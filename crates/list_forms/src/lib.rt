@@ -2,37 +2,40 @@
 // instead. Nothing is stored here.
 #![tactic(auto)]
 
-ghost use Rattle.std.specs.Prelude.{get_or, ◌≡◌, ◌≤◌, [], ◌∷◌, length};
-ghost use Rattle.list_memory.specs.Memory.{rows_given};
+ghost use Rattle.std.specs.Prelude.{get_or, ◌≡◌, ◌≤◌, [], ◌∷◌, length, true, false, IfSome, MatchResult};
+ghost use Rattle.list_memory.specs.Memory.{rows_given, memory_words};
 ghost use Rattle.list_memory.specs.Layouts.{table_number};
 ghost use Rattle.list_tokens.specs.declared.Keyword.{Keyword};
+ghost use Rattle.list_memory.specs.declared.Form.{Form};
 ghost use Rattle.list_forms.specs.declared.Item.{Item};
-ghost use Rattle.list_forms.specs.Items.{is_fixed_sort, is_container, is_literal, table_of, slice_of, is_of};
-ghost use Rattle.list_forms.specs.Items.{token_at, keyword_word, word_of, word_at, fits, all_of, list_fits, function_fits};
-ghost use Rattle.list_forms.specs.Plans.{nothing, rows_plan, row_plan, with_run, put_at, with_put, told_plan, capped, grown};
-ghost use Rattle.list_forms.specs.Lines.{is_next, function_plan, parts_row, sort_row, sort_plan, var_plan, vars_plan};
-ghost use Rattle.list_forms.specs.Lines.{bound_plan, bind_plan, node_row, node_plan, expr_plan, name_row, name_plan};
-ghost use Rattle.list_forms.specs.Lines.{default_plan, constraint_row, sub_plan, lit_plan, comprehension_plan};
+ghost use Rattle.list_forms.specs.Items.{is_fixed_sort, is_container, is_literal, table_named, slice_named, is_of};
+ghost use Rattle.list_forms.specs.Items.{token_at, keyword_word, word_of, word_at, fits_form, all_of};
+ghost use Rattle.list_forms.specs.Items.{list_fits, function_fits};
+ghost use Rattle.list_forms.specs.Plans.{nothing, rows_plan, row_plan, with_run, put_at, with_put};
+ghost use Rattle.list_forms.specs.Plans.{told_plan, saturated, grown};
+ghost use Rattle.list_forms.specs.Lines.{is_next, function_plan, parts_row, sort_plan, var_plan, vars_plan};
+ghost use Rattle.list_forms.specs.Lines.{bound_plan, bind_plan, node_plan, expr_plan, name_plan};
+ghost use Rattle.list_forms.specs.Lines.{default_plan, constraint_row, pair_plan, comprehension_plan};
 ghost use Rattle.list_forms.specs.Lines.{disjunction_plan, overload_row, overload_plan, join_plan, sources_plan};
-ghost use Rattle.list_forms.specs.Lines.{entries_plan, constraint_plan, pad_plan, counted, count_plan, lent, lend_plan};
-ghost use Rattle.list_forms.specs.Lines.{plan_by, plan_of, asks_other};
+ghost use Rattle.list_forms.specs.Lines.{entries_plan, constraint_plan, pad_plan, told_line, count_plan, lend_plan};
+ghost use Rattle.list_forms.specs.Lines.{plan_of, asks_other};
 
-use inference::MAX_CONSTRAINTS;
+use inference::{LitKind, MAX_CONSTRAINTS};
 use list_memory::{
     COUNTS_AT, COUNTS_TOLD_AT, DEFAULT_AT, Form, LAST_AT, LENT_AT, LENT_TOLD_AT, LIST_BINDS_AT,
     LIST_CONSTRAINTS_AT, LIST_WORDS, LastConstraint, MAX_NAMES, ROWS_AT, Slice, Table,
 };
 use list_tokens::{Keyword, Token};
-use resolved_sort::{DEF_KIND, FUNCTION_KIND, LAST_KIND, SORT_NUMBERS};
+use resolved_sort::{ComplexSort, DEF_KIND, FUNCTION_KIND, LAST_KIND, SORT_NUMBERS};
 use unification::{FIRST_NODE, FREE_WORD, InferSortId, MAX_VARS, SortVar, VARIABLE_KIND};
 use words::word;
 
-// So many rows of a table, whose second word rises by one from row to row where `rising`.
+// So many rows of a table: the first of them, and by how much the second word grows from row to row.
 #[derive(Clone, Copy, Debug, PartialEq, Eq)]
 pub struct Rows {
     pub table: Table,
     pub times: u16,
-    pub rising: bool,
+    pub step: u16,
     pub row: [u16; 5],
 }
 
@@ -128,9 +131,10 @@ fn is_literal(keyword: Keyword) -> bool
     matches!(keyword, Keyword::Positive | Keyword::Natural)
 }
 
-// The table that a word of `count` names.
+// The table that a word of `count` names, and the slice that a word of `lend` names.
+// kept: functions and no TryFrom, since neither the word nor what it names is a type of this crate.
 fn table_of(token: Token) -> Option<Table>
-    ensures { result ≡ table_of token }
+    ensures { result ≡ table_named token }
 {
     match token {
         Token::Keyword(Keyword::Sorts) => Some(Table::Sorts),
@@ -147,9 +151,8 @@ fn table_of(token: Token) -> Option<Table>
     }
 }
 
-// The slice that a word of `lend` names.
 fn slice_of(token: Token) -> Option<Slice>
-    ensures { result ≡ slice_of token }
+    ensures { result ≡ slice_named token }
 {
     match token {
         Token::Keyword(Keyword::Sorts) => Some(Slice::Sorts),
@@ -201,7 +204,8 @@ pub fn token_at(t: &[Token], i: usize) -> Token
     t.get(i).copied().unwrap_or(Token::Other)
 }
 
-// What a word of the format stands for in memory.
+// What a word of the format stands for in memory: a fixed sort's number, the kind of a container or of a literal.
+#[tactic(auto, unfolding(resolved_sort::specs::Storage::kind_op))]
 fn keyword_word(keyword: Keyword) -> u16
     ensures { result ≡ keyword_word keyword }
 {
@@ -211,12 +215,12 @@ fn keyword_word(keyword: Keyword) -> u16
         Keyword::Nat => 3,
         Keyword::Int => 4,
         Keyword::Real => 5,
-        Keyword::ListOf => 6,
-        Keyword::SetOf => 7,
-        Keyword::FSetOf => 8,
-        Keyword::BagOf => 9,
-        Keyword::FBagOf => 10,
-        Keyword::Natural => 1,
+        Keyword::ListOf => ComplexSort::List.into(),
+        Keyword::SetOf => ComplexSort::Set.into(),
+        Keyword::FSetOf => ComplexSort::FSet.into(),
+        Keyword::BagOf => ComplexSort::Bag.into(),
+        Keyword::FBagOf => ComplexSort::FBag.into(),
+        Keyword::Natural => LitKind::Natural as u16,
         _ => 0,
     }
 }
@@ -242,9 +246,9 @@ pub fn word_at(t: &[Token], i: usize) -> u16
 }
 
 // The words of a line are of the items, one for one, and no more.
-#[tactic(auto, unfolding(crate::specs::Items::fits))]
+#[tactic(auto, unfolding(crate::specs::Items::fits_form))]
 pub fn fits(t: &[Token], form: &[Item]) -> bool
-    ensures { result ≡ fits t.now form.now }
+    ensures { result ≡ fits_form t.now form.now }
 {
     t.len() == form.len() && form.iter().zip(t).all(|(item, token)| item.is(*token))
 }
@@ -254,38 +258,6 @@ fn all_of(item: Item, words: &[Token]) -> bool
     ensures { result ≡ all_of item words.now }
 {
     words.iter().all(|token| item.is(*token))
-}
-
-// At least one word after the first, all of an item.
-#[tactic(auto, unfolding(crate::specs::Items::list_fits))]
-fn list_fits(t: &[Token], item: Item) -> bool
-    ensures { result ≡ list_fits t.now item }
-{
-    if t.len() < 2 {
-        return false;
-    }
-    all_of(item, &t[1..])
-}
-
-// `fn X ... -> X` after a keyword and a name.
-#[tactic(auto, unfolding(crate::specs::Items::function_fits))]
-fn function_fits(t: &[Token], item: Item) -> bool
-    ensures { result ≡ function_fits t.now item }
-{
-    let count = t.len();
-    if count < 5 {
-        return false;
-    }
-    if !Item::Word(Keyword::Fn).is(t[2]) {
-        return false;
-    }
-    if !Item::Word(Keyword::Arrow).is(t[count - 2]) {
-        return false;
-    }
-    if !item.is(t[count - 1]) {
-        return false;
-    }
-    all_of(item, &t[3..count - 2])
 }
 
 // A line that gives nothing.
@@ -301,18 +273,18 @@ const NOTHING: Plan = Plan {
 fn row_plan(table: Table, row: [u16; 5]) -> Plan
     ensures { result ≡ row_plan table row }
 {
-    rows_plan(table, 1, false, row)
+    rows_plan(table, 1, 0, row)
 }
 
-// So many rows of a table, whose second word rises or not.
-fn rows_plan(table: Table, times: u16, rising: bool, row: [u16; 5]) -> Plan
-    ensures { result ≡ rows_plan table times rising row }
+// So many rows of a table, whose second word grows by a step.
+fn rows_plan(table: Table, times: u16, step: u16, row: [u16; 5]) -> Plan
+    ensures { result ≡ rows_plan table times step row }
 {
     Plan {
         rows: Some(Rows {
             table,
             times,
-            rising,
+            step,
             row,
         }),
         ..NOTHING
@@ -334,8 +306,8 @@ fn told_plan(at: usize, value: u16, told_at: usize) -> Plan
 }
 
 // A count as a word: it stops where counts of rows do.
-fn capped(n: usize) -> u16
-    ensures { result ≡ capped n }
+fn saturated(n: usize) -> u16
+    ensures { result ≡ saturated n }
 {
     u16::try_from(n).unwrap_or(u16::MAX)
 }
@@ -357,35 +329,9 @@ fn constraint_row(row: [u16; 5], last: LastConstraint) -> Plan
     Plan {
         put: Some(Put {
             at: LAST_AT,
-            value: last.number(),
+            value: last.into(),
         }),
         ..row_plan(Table::Constraints, row)
-    }
-}
-
-// The count of a table as a line tells it.
-fn counted(table: Option<Table>, n: u16) -> Result<Plan, Form>
-    ensures { result ≡ counted table n }
-{
-    match table {
-        Some(table) => {
-            let k = table.number();
-            Ok(told_plan(COUNTS_AT + k, n, COUNTS_TOLD_AT + k))
-        }
-        None => Err(Form::Count),
-    }
-}
-
-// The length lent of a slice as a line tells it.
-fn lent(slice: Option<Slice>, n: u16) -> Result<Plan, Form>
-    ensures { result ≡ lent slice n }
-{
-    match slice {
-        Some(slice) => {
-            let j = slice.number();
-            Ok(told_plan(LENT_AT + j, n, LENT_TOLD_AT + j))
-        }
-        None => Err(Form::Lend),
     }
 }
 
@@ -403,21 +349,55 @@ impl<'a> Line<'a> {
     }
 
     fn fits(&self, form: &[Item]) -> bool
-        ensures { result ≡ fits self.now.words.now form.now }
+        ensures { result ≡ fits_form self.now.words.now form.now }
     {
         fits(self.words, form)
     }
 
+    // At least one word after the first, all of an item.
+    #[tactic(auto, unfolding(crate::specs::Items::list_fits))]
     fn list_fits(&self, item: Item) -> bool
         ensures { result ≡ list_fits self.now.words.now item }
     {
-        list_fits(self.words, item)
+        1 < self.words.len() && all_of(item, &self.words[1..])
     }
 
+    // `fn X ... -> X` after a keyword and a name.
+    #[tactic(auto, unfolding(crate::specs::Items::function_fits))]
     fn function_fits(&self, item: Item) -> bool
         ensures { result ≡ function_fits self.now.words.now item }
     {
-        function_fits(self.words, item)
+        match self.words {
+            [_, _, function, parts @ .., arrow, range] => {
+                Item::Word(Keyword::Fn).is(*function)
+                    && Item::Word(Keyword::Arrow).is(*arrow)
+                    && item.is(*range)
+                    && all_of(item, parts)
+            }
+            _ => false,
+        }
+    }
+
+    // A line of a form, or what was expected instead.
+    fn expect(&self, items: &[Item], form: Form) -> Result<(), Form>
+        ensures { MatchResult result
+            (λ _. fits_form self.now.words.now items.now ≡ true)
+            (λ f. (fits_form self.now.words.now items.now ≡ false) × (f ≡ form)) }
+    {
+        if self.fits(items) { Ok(()) } else { Err(form) }
+    }
+
+    // A line of a keyword and a list, or what was expected instead.
+    fn expect_list(&self, item: Item, form: Form) -> Result<(), Form>
+        ensures { MatchResult result
+            (λ _. list_fits self.now.words.now item ≡ true)
+            (λ f. (list_fits self.now.words.now item ≡ false) × (f ≡ form)) }
+    {
+        if self.list_fits(item) {
+            Ok(())
+        } else {
+            Err(form)
+        }
     }
 
     // The word at i of the list.
@@ -441,19 +421,16 @@ impl<'a> Line<'a> {
         requires { i ≤ 4 }
         ensures { result ≡ grown self.now.list.now last i n }
     {
-        if self.list_word(LAST_AT) == last.number() {
-            let rows = self.rows_given(Table::Constraints) as usize;
-            if rows == 0 {
-                return None;
-            }
-            if MAX_CONSTRAINTS < rows {
-                return None;
-            }
-            let at = BEFORE_CONSTRAINTS + 5 * rows + i;
-            let value = capped((self.list_word(at) as usize) + (n as usize));
-            return Some(Put { at, value });
+        if self.list_word(LAST_AT) != u16::from(last) {
+            return None;
         }
-        None
+        let rows = self.rows_given(Table::Constraints) as usize;
+        if rows == 0 || MAX_CONSTRAINTS < rows {
+            return None;
+        }
+        let at = BEFORE_CONSTRAINTS + 5 * rows + i;
+        let value = self.list_word(at).saturating_add(n);
+        Some(Put { at, value })
     }
 
     // A word is the next name of a table.
@@ -470,6 +447,19 @@ impl<'a> Line<'a> {
         }
     }
 
+    // A line that makes a row names it, and the name is the next one of the table.
+    fn expect_next(&self, token: Token, table: Table) -> Result<(), Form>
+        ensures { MatchResult result
+            (λ _. is_next self.now.list.now token table ≡ true)
+            (λ f. (is_next self.now.list.now token table ≡ false) × (f ≡ Form.Next)) }
+    {
+        if self.is_next(token, table) {
+            Ok(())
+        } else {
+            Err(Form::Next)
+        }
+    }
+
     // A function row of a table, with its arguments in another.
     #[tactic(auto, unfolding(crate::specs::Lines::function_plan))]
     fn function_plan(&self, table: Table, entries: Table) -> Plan
@@ -477,7 +467,7 @@ impl<'a> Line<'a> {
     {
         let range = self.word_at(self.words.len().saturating_sub(1));
         let start = self.rows_given(entries);
-        let arguments = capped(self.words.len().saturating_sub(5));
+        let arguments = saturated(self.words.len().saturating_sub(5));
         Plan {
             run: Some(Run {
                 table: entries,
@@ -534,16 +524,7 @@ impl<'a> Line<'a> {
     fn sort_plan(&self) -> Result<Plan, Form>
         ensures { result ≡ sort_plan self.now.list.now self.now.words.now }
     {
-        if self.is_next(self.token_at(1), Table::Sorts) {
-            return self.sort_row();
-        }
-        Err(Form::Next)
-    }
-
-    #[tactic(auto, unfolding(crate::specs::Lines::sort_row))]
-    fn sort_row(&self) -> Result<Plan, Form>
-        ensures { result ≡ sort_row self.now.list.now self.now.words.now }
-    {
+        self.expect_next(self.token_at(1), Table::Sorts)?;
         if let Some(plan) = self.parts_row(
             Keyword::Sort,
             Item::Sort,
@@ -580,19 +561,16 @@ impl<'a> Line<'a> {
     fn var_plan(&self) -> Result<Plan, Form>
         ensures { result ≡ var_plan self.now.list.now self.now.words.now }
     {
-        if self.fits(&[Item::Word(Keyword::Var), Item::Var, Item::Node]) {
-            if self.is_next(self.token_at(1), Table::Vars) {
-                if self.is_next(self.token_at(2), Table::Nodes) {
-                    return Ok(Plan {
-                        free: 1,
-                        ..row_plan(Table::Nodes, [VARIABLE_KIND, self.word_at(1), 0, 0, 0])
-                    });
-                }
-                return Err(Form::Next);
-            }
-            return Err(Form::Next);
-        }
-        Err(Form::Var)
+        self.expect(
+            &[Item::Word(Keyword::Var), Item::Var, Item::Node],
+            Form::Var,
+        )?;
+        self.expect_next(self.token_at(1), Table::Vars)?;
+        self.expect_next(self.token_at(2), Table::Nodes)?;
+        Ok(Plan {
+            free: 1,
+            ..row_plan(Table::Nodes, [VARIABLE_KIND, self.word_at(1), 0, 0, 0])
+        })
     }
 
     // `vars N`
@@ -600,13 +578,11 @@ impl<'a> Line<'a> {
     fn vars_plan(&self) -> Result<Plan, Form>
         ensures { result ≡ vars_plan self.now.words.now }
     {
-        if self.fits(&[Item::Word(Keyword::Vars), Item::Number]) {
-            return Ok(Plan {
-                free: self.word_at(1),
-                ..NOTHING
-            });
-        }
-        Err(Form::Vars)
+        self.expect(&[Item::Word(Keyword::Vars), Item::Number], Form::Vars)?;
+        Ok(Plan {
+            free: self.word_at(1),
+            ..NOTHING
+        })
     }
 
     // The binding of a variable that has none yet; one past the ceiling has no word.
@@ -614,17 +590,17 @@ impl<'a> Line<'a> {
     fn bound_plan(&self, var: SortVar, place: InferSortId) -> Result<Plan, Form>
         ensures { result ≡ bound_plan self.now.list.now var.0 place.0 }
     {
-        if var.0 < self.rows_given(Table::Vars) {
-            if var.0 < VARS {
-                let at = LIST_BINDS_AT + (var.0 as usize);
-                if self.list_word(at) == FREE_WORD {
-                    return Ok(put_plan(at, place.0));
-                }
-                return Err(Form::Unbound);
-            }
+        if self.rows_given(Table::Vars) <= var.0 {
+            return Err(Form::Unbound);
+        }
+        if VARS <= var.0 {
             return Ok(NOTHING);
         }
-        Err(Form::Unbound)
+        let at = LIST_BINDS_AT + (var.0 as usize);
+        if self.list_word(at) != FREE_WORD {
+            return Err(Form::Unbound);
+        }
+        Ok(put_plan(at, place.0))
     }
 
     // `bind vN P`
@@ -632,10 +608,11 @@ impl<'a> Line<'a> {
     fn bind_plan(&self) -> Result<Plan, Form>
         ensures { result ≡ bind_plan self.now.list.now self.now.words.now }
     {
-        if self.fits(&[Item::Word(Keyword::Bind), Item::Var, Item::Place]) {
-            return self.bound_plan(SortVar(self.word_at(1)), InferSortId(self.word_at(2)));
-        }
-        Err(Form::Bind)
+        self.expect(
+            &[Item::Word(Keyword::Bind), Item::Var, Item::Place],
+            Form::Bind,
+        )?;
+        self.bound_plan(SortVar(self.word_at(1)), InferSortId(self.word_at(2)))
     }
 
     // `node nK ..`
@@ -643,16 +620,7 @@ impl<'a> Line<'a> {
     fn node_plan(&self) -> Result<Plan, Form>
         ensures { result ≡ node_plan self.now.list.now self.now.words.now }
     {
-        if self.is_next(self.token_at(1), Table::Nodes) {
-            return self.node_row();
-        }
-        Err(Form::Next)
-    }
-
-    #[tactic(auto, unfolding(crate::specs::Lines::node_row))]
-    fn node_row(&self) -> Result<Plan, Form>
-        ensures { result ≡ node_row self.now.list.now self.now.words.now }
-    {
+        self.expect_next(self.token_at(1), Table::Nodes)?;
         if let Some(plan) = self.parts_row(
             Keyword::Node,
             Item::Node,
@@ -678,13 +646,12 @@ impl<'a> Line<'a> {
     fn expr_plan(&self) -> Result<Plan, Form>
         ensures { result ≡ expr_plan self.now.list.now self.now.words.now }
     {
-        if self.is_next(self.token_at(1), Table::Exprs) {
-            if self.fits(&[Item::Word(Keyword::Expr), Item::Expr, Item::Place]) {
-                return Ok(row_plan(Table::Exprs, [self.word_at(2), 0, 0, 0, 0]));
-            }
-            return Err(Form::Expr);
-        }
-        Err(Form::Next)
+        self.expect_next(self.token_at(1), Table::Exprs)?;
+        self.expect(
+            &[Item::Word(Keyword::Expr), Item::Expr, Item::Place],
+            Form::Expr,
+        )?;
+        Ok(row_plan(Table::Exprs, [self.word_at(2), 0, 0, 0, 0]))
     }
 
     // `name eN ..`
@@ -692,16 +659,9 @@ impl<'a> Line<'a> {
     fn name_plan(&self) -> Result<Plan, Form>
         ensures { result ≡ name_plan self.now.list.now self.now.words.now }
     {
-        if self.rows_given(Table::Names) < NAMES {
-            return self.name_row();
+        if NAMES <= self.rows_given(Table::Names) {
+            return Err(Form::Names);
         }
-        Err(Form::Names)
-    }
-
-    #[tactic(auto, unfolding(crate::specs::Lines::name_row))]
-    fn name_row(&self) -> Result<Plan, Form>
-        ensures { result ≡ name_row self.now.words.now }
-    {
         if self.fits(&[
             Item::Word(Keyword::Name),
             Item::Expr,
@@ -753,46 +713,24 @@ impl<'a> Line<'a> {
     fn default_plan(&self) -> Result<Plan, Form>
         ensures { result ≡ default_plan self.now.words.now }
     {
-        if self.fits(&[Item::Word(Keyword::Default), Item::Sort]) {
-            return Ok(put_plan(DEFAULT_AT, self.word_at(1)));
-        }
-        Err(Form::Default)
+        self.expect(&[Item::Word(Keyword::Default), Item::Sort], Form::Default)?;
+        Ok(put_plan(DEFAULT_AT, self.word_at(1)))
     }
 
-    // `sub P P`
-    #[tactic(auto, unfolding(crate::specs::Lines::sub_plan))]
-    fn sub_plan(&self) -> Result<Plan, Form>
-        ensures { result ≡ sub_plan self.now.words.now }
+    // `sub P P`, `lit P positive`, `lit P natural`: a constraint of a place and another item.
+    #[tactic(auto, unfolding(crate::specs::Lines::pair_plan))]
+    fn pair_plan(
+        &self,
+        keyword: Keyword,
+        item: Item,
+        kind: ConstraintKind,
+        form: Form,
+    ) -> Result<Plan, Form>
+        ensures { result ≡ pair_plan self.now.words.now keyword item kind form }
     {
-        if self.fits(&[Item::Word(Keyword::Sub), Item::Place, Item::Place]) {
-            let row = [
-                ConstraintKind::Sub as u16,
-                self.word_at(1),
-                self.word_at(2),
-                0,
-                0,
-            ];
-            return Ok(constraint_row(row, LastConstraint::Other));
-        }
-        Err(Form::Sub)
-    }
-
-    // `lit P positive`, `lit P natural`
-    #[tactic(auto, unfolding(crate::specs::Lines::lit_plan))]
-    fn lit_plan(&self) -> Result<Plan, Form>
-        ensures { result ≡ lit_plan self.now.words.now }
-    {
-        if self.fits(&[Item::Word(Keyword::Lit), Item::Place, Item::Literal]) {
-            let row = [
-                ConstraintKind::Lit as u16,
-                self.word_at(1),
-                self.word_at(2),
-                0,
-                0,
-            ];
-            return Ok(constraint_row(row, LastConstraint::Other));
-        }
-        Err(Form::Lit)
+        self.expect(&[Item::Word(keyword), Item::Place, item], form)?;
+        let row = [kind as u16, self.word_at(1), self.word_at(2), 0, 0];
+        Ok(constraint_row(row, LastConstraint::Other))
     }
 
     // `comprehension P P S`
@@ -800,17 +738,18 @@ impl<'a> Line<'a> {
     fn comprehension_plan(&self) -> Result<Plan, Form>
         ensures { result ≡ comprehension_plan self.now.words.now }
     {
-        if self.fits(&[
-            Item::Word(Keyword::Comprehension),
-            Item::Place,
-            Item::Place,
-            Item::Sort,
-        ]) {
-            let kind = ConstraintKind::Comprehension as u16;
-            let row = [kind, self.word_at(1), self.word_at(2), self.word_at(3), 0];
-            return Ok(constraint_row(row, LastConstraint::Other));
-        }
-        Err(Form::Comprehension)
+        self.expect(
+            &[
+                Item::Word(Keyword::Comprehension),
+                Item::Place,
+                Item::Place,
+                Item::Sort,
+            ],
+            Form::Comprehension,
+        )?;
+        let kind = ConstraintKind::Comprehension as u16;
+        let row = [kind, self.word_at(1), self.word_at(2), self.word_at(3), 0];
+        Ok(constraint_row(row, LastConstraint::Other))
     }
 
     // `disjunction eN P`
@@ -818,13 +757,14 @@ impl<'a> Line<'a> {
     fn disjunction_plan(&self) -> Result<Plan, Form>
         ensures { result ≡ disjunction_plan self.now.list.now self.now.words.now }
     {
-        if self.fits(&[Item::Word(Keyword::Disjunction), Item::Expr, Item::Place]) {
-            let kind = ConstraintKind::Disjunction as u16;
-            let first = self.rows_given(Table::Overloads);
-            let row = [kind, self.word_at(1), self.word_at(2), first, 0];
-            return Ok(constraint_row(row, LastConstraint::Disjunction));
-        }
-        Err(Form::Disjunction)
+        self.expect(
+            &[Item::Word(Keyword::Disjunction), Item::Expr, Item::Place],
+            Form::Disjunction,
+        )?;
+        let kind = ConstraintKind::Disjunction as u16;
+        let first = self.rows_given(Table::Overloads);
+        let row = [kind, self.word_at(1), self.word_at(2), first, 0];
+        Ok(constraint_row(row, LastConstraint::Disjunction))
     }
 
     // An overload; its disjunction has one more.
@@ -887,26 +827,24 @@ impl<'a> Line<'a> {
     fn join_plan(&self) -> Result<Plan, Form>
         ensures { result ≡ join_plan self.now.list.now self.now.words.now }
     {
-        if self.list_fits(Item::Place) {
-            let first = self.rows_given(Table::Sources);
-            let sources = capped(self.words.len().saturating_sub(2));
-            let row = [
-                ConstraintKind::Join as u16,
-                self.word_at(1),
-                first,
-                sources,
-                0,
-            ];
-            return Ok(Plan {
-                run: Some(Run {
-                    table: Table::Sources,
-                    from: 2,
-                    to: self.words.len(),
-                }),
-                ..constraint_row(row, LastConstraint::Join)
-            });
-        }
-        Err(Form::Join)
+        self.expect_list(Item::Place, Form::Join)?;
+        let first = self.rows_given(Table::Sources);
+        let sources = saturated(self.words.len().saturating_sub(2));
+        let row = [
+            ConstraintKind::Join as u16,
+            self.word_at(1),
+            first,
+            sources,
+            0,
+        ];
+        Ok(Plan {
+            run: Some(Run {
+                table: Table::Sources,
+                from: 2,
+                to: self.words.len(),
+            }),
+            ..constraint_row(row, LastConstraint::Join)
+        })
     }
 
     // The words of a line after its first, as rows of a table.
@@ -928,14 +866,12 @@ impl<'a> Line<'a> {
     fn sources_plan(&self) -> Result<Plan, Form>
         ensures { result ≡ sources_plan self.now.list.now self.now.words.now }
     {
-        if self.list_fits(Item::Place) {
-            let more = capped(self.words.len().saturating_sub(1));
-            return Ok(Plan {
-                put: self.grown(LastConstraint::Join, 3, more),
-                ..self.run_plan(Table::Sources)
-            });
-        }
-        Err(Form::Sources)
+        self.expect_list(Item::Place, Form::Sources)?;
+        let more = saturated(self.words.len().saturating_sub(1));
+        Ok(Plan {
+            put: self.grown(LastConstraint::Join, 3, more),
+            ..self.run_plan(Table::Sources)
+        })
     }
 
     // `entries N ...`, `node-entries N ...`
@@ -943,10 +879,8 @@ impl<'a> Line<'a> {
     fn entries_plan(&self, table: Table, form: Form) -> Result<Plan, Form>
         ensures { result ≡ entries_plan self.now.words.now table form }
     {
-        if self.list_fits(Item::Number) {
-            return Ok(self.run_plan(table));
-        }
-        Err(form)
+        self.expect_list(Item::Number, form)?;
+        Ok(self.run_plan(table))
     }
 
     // `constraint KIND A B C D`
@@ -954,24 +888,25 @@ impl<'a> Line<'a> {
     fn constraint_plan(&self) -> Result<Plan, Form>
         ensures { result ≡ constraint_plan self.now.words.now }
     {
-        if self.fits(&[
-            Item::Word(Keyword::Constraint),
-            Item::Number,
-            Item::Number,
-            Item::Number,
-            Item::Number,
-            Item::Number,
-        ]) {
-            let row = [
-                self.word_at(1),
-                self.word_at(2),
-                self.word_at(3),
-                self.word_at(4),
-                self.word_at(5),
-            ];
-            return Ok(constraint_row(row, LastConstraint::Other));
-        }
-        Err(Form::Constraint)
+        self.expect(
+            &[
+                Item::Word(Keyword::Constraint),
+                Item::Number,
+                Item::Number,
+                Item::Number,
+                Item::Number,
+                Item::Number,
+            ],
+            Form::Constraint,
+        )?;
+        let row = [
+            self.word_at(1),
+            self.word_at(2),
+            self.word_at(3),
+            self.word_at(4),
+            self.word_at(5),
+        ];
+        Ok(constraint_row(row, LastConstraint::Other))
     }
 
     // `pad WHAT N`
@@ -985,53 +920,77 @@ impl<'a> Line<'a> {
             Item::Number,
         ]) {
             let row = [DEF_KIND, self.rows_given(Table::Sorts), 0, 0, 0];
-            return Ok(rows_plan(Table::Sorts, self.word_at(2), true, row));
+            return Ok(rows_plan(Table::Sorts, self.word_at(2), 1, row));
         }
         if self.fits(&[
             Item::Word(Keyword::Pad),
             Item::Word(Keyword::Nodes),
             Item::Number,
         ]) {
-            let row = [LIST_KIND, BOOL_SORT, 0, 0, 0];
-            return Ok(rows_plan(Table::Nodes, self.word_at(2), false, row));
+            let row = [
+                keyword_word(Keyword::ListOf),
+                keyword_word(Keyword::Bool),
+                0,
+                0,
+                0,
+            ];
+            return Ok(rows_plan(Table::Nodes, self.word_at(2), 0, row));
         }
         if self.fits(&[
             Item::Word(Keyword::Pad),
             Item::Word(Keyword::Entries),
             Item::Number,
         ]) {
-            return Ok(rows_plan(Table::Entries, self.word_at(2), false, [0; 5]));
+            return Ok(rows_plan(Table::Entries, self.word_at(2), 0, [0; 5]));
         }
         if self.fits(&[
             Item::Word(Keyword::Pad),
             Item::Word(Keyword::NodeEntries),
             Item::Number,
         ]) {
-            return Ok(rows_plan(Table::NodeEntries, self.word_at(2), false, [0; 5]));
+            return Ok(rows_plan(Table::NodeEntries, self.word_at(2), 0, [0; 5]));
         }
         Err(Form::Pad)
     }
 
+    // `count WHAT N`, `lend WHAT N`: a word that the line tells, behind `at` by the number of what it names.
+    #[tactic(auto, unfolding(crate::specs::Lines::told_line))]
+    fn told_line(
+        &self,
+        keyword: Keyword,
+        number: Option<usize>,
+        at: usize,
+        told_at: usize,
+        form: Form,
+    ) -> Result<Plan, Form>
+        requires { IfSome number (λ k. k ≤ 11) × (at ≤ memory_words) × (told_at ≤ memory_words) }
+        ensures { result ≡ told_line self.now.words.now keyword number at told_at form }
+    {
+        self.expect(&[Item::Word(keyword), Item::AnyWord, Item::Number], form)?;
+        let k = number.ok_or(form)?;
+        Ok(told_plan(at + k, self.word_at(2), told_at + k))
+    }
+
     // `count WHAT N`
-    #[tactic(auto, unfolding(crate::specs::Lines::count_plan))]
     fn count_plan(&self) -> Result<Plan, Form>
         ensures { result ≡ count_plan self.now.words.now }
     {
-        if self.fits(&[Item::Word(Keyword::Count), Item::AnyWord, Item::Number]) {
-            return counted(table_of(self.token_at(1)), self.word_at(2));
-        }
-        Err(Form::Count)
+        let table = table_of(self.token_at(1)).map(Table::number);
+        self.told_line(
+            Keyword::Count,
+            table,
+            COUNTS_AT,
+            COUNTS_TOLD_AT,
+            Form::Count,
+        )
     }
 
     // `lend WHAT N`
-    #[tactic(auto, unfolding(crate::specs::Lines::lend_plan))]
     fn lend_plan(&self) -> Result<Plan, Form>
         ensures { result ≡ lend_plan self.now.words.now }
     {
-        if self.fits(&[Item::Word(Keyword::Lend), Item::AnyWord, Item::Number]) {
-            return lent(slice_of(self.token_at(1)), self.word_at(2));
-        }
-        Err(Form::Lend)
+        let slice = slice_of(self.token_at(1)).map(Slice::number);
+        self.told_line(Keyword::Lend, slice, LENT_AT, LENT_TOLD_AT, Form::Lend)
     }
 
     // What a line of a list gives, by its first word; `bare` gives no rows and is not among these.
@@ -1048,8 +1007,12 @@ impl<'a> Line<'a> {
             Token::Keyword(Keyword::Expr) => self.expr_plan(),
             Token::Keyword(Keyword::Name) => self.name_plan(),
             Token::Keyword(Keyword::Default) => self.default_plan(),
-            Token::Keyword(Keyword::Sub) => self.sub_plan(),
-            Token::Keyword(Keyword::Lit) => self.lit_plan(),
+            Token::Keyword(Keyword::Sub) => {
+                self.pair_plan(Keyword::Sub, Item::Place, ConstraintKind::Sub, Form::Sub)
+            }
+            Token::Keyword(Keyword::Lit) => {
+                self.pair_plan(Keyword::Lit, Item::Literal, ConstraintKind::Lit, Form::Lit)
+            }
             Token::Keyword(Keyword::Comprehension) => self.comprehension_plan(),
             Token::Keyword(Keyword::Disjunction) => self.disjunction_plan(),
             Token::Keyword(Keyword::Overload) => self.overload_plan(),
@@ -1071,7 +1034,7 @@ impl<'a> Line<'a> {
 
 // `? WHAT X X`
 fn asks(t: &[Token], what: Keyword, item: Item) -> bool
-    ensures { result ≡ fits t.now (Item.Word Keyword.Ask ∷ Item.Word what ∷ item ∷ item ∷ []) }
+    ensures { result ≡ fits_form t.now (Item.Word Keyword.Ask ∷ Item.Word what ∷ item ∷ item ∷ []) }
 {
     fits(t, &[Item::Word(Keyword::Ask), Item::Word(what), item, item])
 }
@@ -1099,8 +1062,3 @@ const BEFORE_CONSTRAINTS: usize = LIST_CONSTRAINTS_AT - 5;
 const VARS: u16 = MAX_VARS as u16;
 
 const NAMES: u16 = MAX_NAMES as u16;
-
-// `pad` makes nodes `List Bool`.
-const LIST_KIND: u16 = 6;
-
-const BOOL_SORT: u16 = 1;

@@ -1,40 +1,37 @@
 -- What is printed for a line has room, so that nothing of it is lost: an answer by its longest text, every other line by its
 -- words. Assumes nothing.
 use mathlib.Core.Path.{◌≡◌, ◌∙◌, ap}
-use mathlib.Core.Bool.{Bool, true, false, cond}
-use mathlib.Core.List.{List, [], ◌++◌}
+use mathlib.Core.Bool.{Bool, true, false}
+use mathlib.Core.List.{List, ◌++◌}
 use Prim.Native.Nat.{ℕ, ◌+◌, ◌≤◌}
 use native.Mathlib.Omega.{arith}
 use lib.ListN.{length, length-append}
 use lib.Seq.{sets}
-use lib.Dec.{eqb}
 use Rattle.text_out.specs.Quoted.{bytes_of}
 use Rattle.text_out.specs.declared.Out.{Out}
 use Rattle.text_out.specs.Within.{buffer}
 use Rattle.text_out.specs.Outs.{at_buffer}
 use Rattle.text_out.proofs.Outs.{then_put_room}
 use Rattle.list_memory.specs.declared.Heard.{Heard}
-use Rattle.list_memory.specs.declared.Heard.TheVariants.{Quiet, Begins, Asks, AsksOther, Bad}
+use Rattle.list_memory.specs.declared.Heard.TheVariants.{Quiet, Begins, Asks, AsksOther}
+use Rattle.std.specs.Prelude.{Result, Ok, Err}
+use Rattle.list_memory.specs.declared.Stage.{Stage}
 use Rattle.list_memory.specs.declared.Form.{Form}
 use Rattle.list_memory.specs.declared.Form.TheVariants.{Printable, Length, List as FormList, Question, Asked}
 use Rattle.list_memory.specs.declared.Form.TheVariants.{Keyword, Next, Bare, Sort, Node, Entries, NodeEntries}
 use Rattle.list_memory.specs.declared.Form.TheVariants.{Pad, Var, Vars, Bind, Unbound, Expr, Name, Names, Default}
 use Rattle.list_memory.specs.declared.Form.TheVariants.{Sub, Lit, Comprehension, Disjunction, Overload, Join}
 use Rattle.list_memory.specs.declared.Form.TheVariants.{Sources, Constraint, Count, Lend, Ceilings, Asks as FormAsks}
-use Rattle.list_memory.specs.Memory.{reading_stage}
 use Rattle.list_messages.specs.Messages.{form_text, bad_text}
-use Rattle.list_reader.specs.Taking.{line_taken}
+use Rattle.list_reader.specs.Taking.{stage_is, line_taken}
 use Rattle.list_answers.proofs.Longest.{answer_fits}
-use Rattle.list_lines.specs.Lines.{unasked_text, stage_of, printed, heard_line}
+use Rattle.list_lines.specs.Lines.{unasked_text, printed, heard_line}
 use Rattle.list_lines.specs.Longest.{printed_room, held_line}
 
-unasked_length : (stage : ℕ) → length (unasked_text stage) ≤ 40
+unasked_length : (unasked : Bool) → length (unasked_text unasked) ≤ 40
 unfolding unasked_text
-unasked_length stage = go (eqb stage reading_stage)
-  where
-    go : (b : Bool) → length (cond b (bytes_of "nothing is asked about this list\n") []) ≤ 40
-    go true = omega arith
-    go false = omega arith
+unasked_length true = omega arith
+unasked_length false = omega arith
 
 form_length : (f : Form) → length (form_text f) ≤ 200
 unfolding form_text
@@ -73,20 +70,20 @@ form_length Ceilings = omega arith
 form_length FormAsks = omega arith
 
 -- What is printed for a line has room.
-pub printed_fits : (h : Heard) (line ws vs : List ℕ) → length line ≤ held_line → length (printed h line ws vs) ≤ printed_room
+pub printed_fits : (h : Result Heard Form) (line ws vs : List ℕ) → length line ≤ held_line → length (printed h line ws vs) ≤ printed_room
 unfolding printed bad_text
-printed_fits Quiet line ws vs l = omega arith
-printed_fits Begins line ws vs l =
+printed_fits (Ok Quiet) line ws vs l = omega arith
+printed_fits (Ok Begins) line ws vs l =
     omega (
       arith,
-      length-append (unasked_text (stage_of ws)) (line ++ bytes_of "\n"),
+      length-append (unasked_text (stage_is ws Stage.Reading)) (line ++ bytes_of "\n"),
       length-append line (bytes_of "\n"),
-      unasked_length (stage_of ws),
+      unasked_length (stage_is ws Stage.Reading),
       l,
     )
-printed_fits Asks line ws vs l = omega (arith, answer_fits vs)
-printed_fits AsksOther line ws vs l = omega arith
-printed_fits (Bad f) line ws vs l =
+printed_fits (Ok Asks) line ws vs l = omega (arith, answer_fits vs)
+printed_fits (Ok AsksOther) line ws vs l = omega arith
+printed_fits (Err f) line ws vs l =
     omega (
       arith,
       length-append (bytes_of "expected ") (form_text f ++ bytes_of "\n"),
@@ -103,5 +100,5 @@ nothing_is_cut ws line out l r =
     let t = line_taken ws line in
     then_put_room out (printed t.heard line ws t.words) (omega (arith, printed_fits t.heard line ws t.words l, r))
 
-pub end_fits : (stage : ℕ) → length (unasked_text stage) ≤ printed_room
-end_fits stage = omega (arith, unasked_length stage)
+pub end_fits : (unasked : Bool) → length (unasked_text unasked) ≤ printed_room
+end_fits unasked = omega (arith, unasked_length unasked)

@@ -4,47 +4,56 @@
 
 ghost use Rattle.std.specs.Prelude.{◌≡◌};
 ghost use Rattle.text_out.specs.Outs.{then_put};
-ghost use Rattle.list_lines.specs.Lines.{unasked_text, stage_of, line_left, heard_line};
+ghost use Rattle.list_reader.specs.Taking.{stage_is};
+ghost use Rattle.list_memory.specs.declared.Stage.{Stage};
+ghost use Rattle.list_lines.specs.Lines.{unasked_text, line_left, heard_line};
 
 use list_answers::answer;
-use list_memory::{Heard, LIST_WORDS, STAGE_AT, Stage};
+use list_memory::{Heard, Stage};
 use list_messages::put_bad;
-use list_reader::take_line;
+use list_reader::List;
 use text_out::Out;
 
-// What is said of a list that ended before any question, by its stage.
-#[tactic(auto, using(text_out::proofs::Outs::put_parts), unfolding(crate::specs::Lines::unasked_text))]
-fn put_unasked(stage: u16, out: &mut Out<'_>)
-    ensures { out.new ≡ then_put out.old (unasked_text stage) }
+// Whether a list is read, and nothing is asked about it so far.
+fn is_unasked(list: &List) -> bool
+    ensures { result ≡ stage_is list.now.words Stage.Reading }
 {
-    if stage == Stage::Reading.number() {
+    list.stage_is(Stage::Reading)
+}
+
+// What is said of a list that ended, where it ended before any question.
+#[tactic(auto, using(text_out::proofs::Outs::put_parts), unfolding(crate::specs::Lines::unasked_text))]
+fn put_unasked(unasked: bool, out: &mut Out<'_>)
+    ensures { out.new ≡ then_put out.old (unasked_text unasked) }
+{
+    if unasked {
         out.put_text(b"nothing is asked about this list\n");
     }
 }
 
 // A line of the input, without its LF, of which at most the first 201 bytes count. Its output is put into the buffer, as
 // far as there is room. The answer is whether the line's number is to stand before it.
-pub fn hear(list: &mut [u16; LIST_WORDS], line: &[u8], out: &mut Out<'_>) -> bool
-    ensures { line_left list.new out.new result ≡ heard_line list.old line.now out.old }
+pub fn hear(list: &mut List, line: &[u8], out: &mut Out<'_>) -> bool
+    ensures { line_left list.new.words out.new result ≡ heard_line list.old.words line.now out.old }
 {
-    let stage = list[STAGE_AT];
-    match take_line(list, line) {
-        Heard::Quiet => false,
-        Heard::Begins => {
-            put_unasked(stage, out);
+    let unasked = is_unasked(list);
+    match list.take_line(line) {
+        Ok(Heard::Quiet) => false,
+        Ok(Heard::Begins) => {
+            put_unasked(unasked, out);
             out.put_text(line);
             out.put_byte(b'\n');
             false
         }
-        Heard::Asks => {
-            answer(list, out);
+        Ok(Heard::Asks) => {
+            answer(&list.words, out);
             false
         }
-        Heard::AsksOther => {
+        Ok(Heard::AsksOther) => {
             out.put_text(b"expected ? solve: no other question is answered here\n");
             true
         }
-        Heard::Bad(form) => {
+        Err(form) => {
             put_bad(form, out);
             true
         }
@@ -52,10 +61,10 @@ pub fn hear(list: &mut [u16; LIST_WORDS], line: &[u8], out: &mut Out<'_>) -> boo
 }
 
 // The end of the input.
-pub fn finish(list: &[u16; LIST_WORDS], out: &mut Out<'_>)
-    ensures { out.new ≡ then_put out.old (unasked_text (stage_of list.now)) }
+pub fn finish(list: &List, out: &mut Out<'_>)
+    ensures { out.new ≡ then_put out.old (unasked_text (stage_is list.now.words Stage.Reading)) }
 {
-    put_unasked(list[STAGE_AT], out);
+    put_unasked(is_unasked(list), out);
 }
 
 // Room for whatever is printed for one line (`printed_fits`).

@@ -1,11 +1,12 @@
 -- A list as it is being read: the slices of a call at their ceilings, one behind the other, then what the lines told
 -- besides.
-use Rattle.std.specs.Prelude.{List, ℕ, ◌+◌, ◌*◌, get_or}
+use Rattle.std.specs.Prelude.{List, ℕ, ◌+◌, ◌*◌, get_or, Result}
 use Rattle.resolved_sort.specs.Storage.{full_length}
 use Rattle.unification.specs.Nodes.{max_vars, full_nodes}
 use Rattle.inference.specs.Constraints.{max_exprs, max_constraints, max_overloads, max_sources, max_components}
 use Rattle.inference.specs.Constraints.{constraint_words, overload_words, name_words}
 use Rattle.inference.specs.SolveChecks.{scratch_words, typing_words, choice_words}
+use Rattle.list_memory.specs.declared.Form.{Form}
 use Rattle.list_memory.specs.declared.Heard.{Heard}
 
 -- the program holds so many base names
@@ -152,13 +153,13 @@ abbrev pub a_join : ℕ
 a_join = 2
 
 -- all words; a few behind the last are free
-abbrev pub list_words : ℕ
-list_words = 34112
+abbrev pub memory_words : ℕ
+memory_words = 34112
 
--- the words after a line, and what came of it
+-- the words after a line, and what came of it: what was expected, of a line that is not of the format
 pub record Taken : Type 0 where
   pub words : List ℕ
-  pub heard : Heard
+  pub heard : Result Heard Form
 
-abbrev pub taken : List ℕ → Heard → Taken
+abbrev pub taken : List ℕ → Result Heard Form → Taken
 taken ws h = record { words = ws; heard = h }

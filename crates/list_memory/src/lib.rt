@@ -83,15 +83,13 @@ pub enum Form {
     Asks,
 }
 
-// What comes of a line: nothing to say, a new list, the question `? solve`, another question, or a line not of the
-// format.
+// What comes of a line of the format: nothing to say, a new list, the question `? solve`, or another question.
 #[derive(Clone, Copy, Debug, PartialEq, Eq)]
 pub enum Heard {
     Quiet,
     Begins,
     Asks,
     AsksOther,
-    Bad(Form),
 }
 
 // The tables of rows that a list has.
@@ -127,6 +125,7 @@ pub enum Slice {
 }
 
 // How far a list is read: no list yet, lines of the list may come, a question was asked, a line was not of the format.
+// kept: four stages, and no Option of three, since one word of memory holds a stage and is compared with one of them.
 #[derive(Clone, Copy, Debug, PartialEq, Eq)]
 pub enum Stage {
     NoList,
@@ -136,6 +135,7 @@ pub enum Stage {
 }
 
 // The last constraint line: overloads may follow a disjunction, and sources a join.
+// kept: Other and no Option, since one word of memory tells which of the three the last line is.
 #[derive(Clone, Copy, Debug, PartialEq, Eq)]
 pub enum LastConstraint {
     Other,
@@ -193,19 +193,21 @@ impl Slice {
     }
 }
 
-impl Stage {
-    pub fn number(self) -> u16
-        ensures { result ≡ stage_number self }
-    {
-        self as u16
+// The word that tells a stage.
+impl From<Stage> for u16 {
+    ghost from_gives = { λ stage word. word ≡ stage_number stage };
+
+    fn from(stage: Stage) -> u16 {
+        stage as u16
     }
 }
 
-impl LastConstraint {
-    pub fn number(self) -> u16
-        ensures { result ≡ last_number self }
-    {
-        self as u16
+// The word that tells what the last constraint line is.
+impl From<LastConstraint> for u16 {
+    ghost from_gives = { λ last word. word ≡ last_number last };
+
+    fn from(last: LastConstraint) -> u16 {
+        last as u16
     }
 }
 
@@ -272,9 +274,6 @@ pub const STAGE_AT: usize = LENT_TOLD_AT + 12;
 pub const LAST_AT: usize = STAGE_AT + 1;
 
 pub const LIST_WORDS: usize = 34112;
-
-// A new list is being read: what STAGE_AT says then.
-pub const READING_STAGE: u16 = 1;
 
 // Counts of rows stop here.
 pub const MOST_ROWS: u16 = 65535;

@@ -4,13 +4,14 @@ use mathlib.Core.Path.{◌≡◌, refl}
 use mathlib.Core.List.{List, [], ◌∷◌, map}
 use Prim.Native.Nat.{ℕ}
 use Prim.Native.String.{String}
+use Rattle.std.specs.Prelude.{Result, Ok, Err}
 use lib.ListN.{get_or, replicate, set}
 use Rattle.words.specs.Words.{zeros}
 use Rattle.sort_text.specs.Parse.{same_bytes}
 use Rattle.sort_text.specs.Tokens.{run, past, skip}
 use Rattle.list_memory.specs.declared.Form.{Form}
 use Rattle.list_memory.specs.declared.Heard.{Heard}
-use Rattle.list_memory.specs.declared.Heard.TheVariants.{Quiet, Begins, Bad}
+use Rattle.list_memory.specs.declared.Heard.TheVariants.{Quiet, Begins}
 use Rattle.list_memory.specs.Layouts as Layouts
 use Rattle.list_tokens.specs.Words as Words
 use Rattle.text_out.specs.Quoted.{bytes_of}
@@ -22,10 +23,10 @@ use Rattle.list_reader.specs.Taking as Taking
 use Rattle.list_reader.specs.Taking.{line_taken}
 
 pub record Told : Type 0 where
-  pub heards : List Heard
+  pub heards : List (Result Heard Form)
   pub words : List ℕ
 
-first : Heard → Told → Told
+first : Result Heard Form → Told → Told
 first h t = record { heards = h ∷ t.heards; words = t.words }
 
 -- lines taken from words on, and the words at some places afterwards
@@ -41,17 +42,17 @@ lines_of_a_list :
     ∷ "overload op Nat n0"
     ∷ [])
     ≡ record {
-      heards = Quiet ∷ Quiet ∷ [];
+      heards = Ok Quiet ∷ Ok Quiet ∷ [];
       words = 2 ∷ 0 ∷ 1024 ∷ 0 ∷ 1 ∷ 0 ∷ 2 ∷ 3 ∷ 1024 ∷ 0 ∷ 0 ∷ 0 ∷ 0 ∷ 0 ∷ 0 ∷ 0 ∷ 0 ∷ 1 ∷ 1 ∷ 0 ∷ 1 ∷ 1 ∷ [];
     }
 unfolding told first zeros Layouts.layout_of Words.spelling Words.place_of Words.keyword_of Tokens.decimal_read
     Tokens.number_read Tokens.name_token Tokens.token_of Tokens.tokens_from Tokens.tokens_of Tokens.line_start same_bytes run
-    past skip Items.is_of Items.word_of Items.word_at Items.fits Items.list_fits Items.function_fits Plans.grown Lines.is_next
-    Lines.function_plan Lines.parts_row Lines.sort_row Lines.sort_plan Lines.var_plan Lines.vars_plan Lines.bound_plan
-    Lines.bind_plan Lines.node_row Lines.node_plan Lines.expr_plan Lines.name_row Lines.name_plan Lines.default_plan
-    Lines.sub_plan Lines.lit_plan Lines.comprehension_plan Lines.disjunction_plan Lines.overload_plan Lines.join_plan
-    Lines.sources_plan Lines.entries_plan Lines.constraint_plan Lines.pad_plan Lines.count_plan Lines.lend_plan Lines.plan_of
-    Lines.asks_other Taking.put_words Taking.one_more_word Taking.kept Taking.appended Taking.next_number Taking.append_times
+    past skip Items.is_of Items.word_of Items.word_at Items.fits_form Items.list_fits Items.function_fits Plans.grown Lines.is_next
+    Lines.function_plan Lines.parts_row Lines.sort_plan Lines.var_plan Lines.vars_plan Lines.bound_plan
+    Lines.bind_plan Lines.node_plan Lines.expr_plan Lines.name_plan Lines.default_plan Lines.pair_plan Lines.told_line
+    Lines.comprehension_plan Lines.disjunction_plan Lines.overload_plan Lines.join_plan
+    Lines.sources_plan Lines.entries_plan Lines.constraint_plan Lines.pad_plan Lines.plan_of
+    Lines.asks_other Taking.one_more_word Taking.row_kept Taking.appended Taking.append_times
     Taking.append_run Taking.carried Taking.bad_line Taking.fixed_rows Taking.begun Taking.bare_taken Taking.question_taken Taking.words_taken
     Taking.other_taken Taking.answer_taken Taking.list_taken Taking.by_start Taking.line_taken
 lines_of_a_list = refl
@@ -60,15 +61,15 @@ lines_of_a_list = refl
 lines_before_a_list :
     map (λ (text : String). (line_taken [] (bytes_of text)).heard)
     ("" ∷ "  # sub" ∷ "sub n0 n1" ∷ "? solve" ∷ "= 0" ∷ "list" ∷ [])
-    ≡ Quiet ∷ Quiet ∷ Bad Form.List ∷ Bad Form.List ∷ Bad Form.Question ∷ Begins ∷ []
+    ≡ Ok Quiet ∷ Ok Quiet ∷ Err Form.List ∷ Err Form.List ∷ Err Form.Question ∷ Ok Begins ∷ []
 unfolding told first zeros Layouts.layout_of Words.spelling Words.place_of Words.keyword_of Tokens.decimal_read
     Tokens.number_read Tokens.name_token Tokens.token_of Tokens.tokens_from Tokens.tokens_of Tokens.line_start same_bytes run
-    past skip Items.is_of Items.word_of Items.word_at Items.fits Items.list_fits Items.function_fits Plans.grown Lines.is_next
-    Lines.function_plan Lines.parts_row Lines.sort_row Lines.sort_plan Lines.var_plan Lines.vars_plan Lines.bound_plan
-    Lines.bind_plan Lines.node_row Lines.node_plan Lines.expr_plan Lines.name_row Lines.name_plan Lines.default_plan
-    Lines.sub_plan Lines.lit_plan Lines.comprehension_plan Lines.disjunction_plan Lines.overload_plan Lines.join_plan
-    Lines.sources_plan Lines.entries_plan Lines.constraint_plan Lines.pad_plan Lines.count_plan Lines.lend_plan Lines.plan_of
-    Lines.asks_other Taking.put_words Taking.one_more_word Taking.kept Taking.appended Taking.next_number Taking.append_times
+    past skip Items.is_of Items.word_of Items.word_at Items.fits_form Items.list_fits Items.function_fits Plans.grown Lines.is_next
+    Lines.function_plan Lines.parts_row Lines.sort_plan Lines.var_plan Lines.vars_plan Lines.bound_plan
+    Lines.bind_plan Lines.node_plan Lines.expr_plan Lines.name_plan Lines.default_plan Lines.pair_plan Lines.told_line
+    Lines.comprehension_plan Lines.disjunction_plan Lines.overload_plan Lines.join_plan
+    Lines.sources_plan Lines.entries_plan Lines.constraint_plan Lines.pad_plan Lines.plan_of
+    Lines.asks_other Taking.one_more_word Taking.row_kept Taking.appended Taking.append_times
     Taking.append_run Taking.carried Taking.bad_line Taking.fixed_rows Taking.begun Taking.bare_taken Taking.question_taken Taking.words_taken
     Taking.other_taken Taking.answer_taken Taking.list_taken Taking.by_start Taking.line_taken
 lines_before_a_list = refl

@@ -1,98 +1,87 @@
 -- Putting words, rows and words of a line one by one comes to putting them all. Assumes nothing.
 use mathlib.Core.Path.{◌≡◌, refl, sym, ap, ◌∙◌}
-use mathlib.Core.Bool.{Bool}
+use mathlib.Core.Bool.{Bool, true, false, cond}
 use mathlib.Core.List.{List, [], ◌∷◌}
-use Prim.Native.Nat.{ℕ, zero, suc, ◌+◌, ◌*◌, ◌-◌, ◌<◌, ◌≤◌}
+use Prim.Native.Nat.{ℕ, zero, suc, ◌+◌, ◌*◌, ◌-◌, ◌^◌, ◌<◌, ◌≤◌}
+use Rattle.std.specs.Prelude.{min}
 use native.Mathlib.Nat.{mul-le-mul}
 use native.Mathlib.Numerals.{add-one}
 use native.Mathlib.Omega.{arith}
+use lib.Dec.{ltb}
 use lib.ListN.{get_or, set}
+use borrow.Author.Tests.{ltb-true, ltb-false}
 use Rattle.resolved_sort.specs.Storage.{row_words}
 use Rattle.list_memory.specs.declared.Table.{Table}
-use Rattle.list_memory.specs.Memory.{list_sorts_at}
+use Rattle.list_memory.specs.Memory.{list_sorts_at, memory_words}
+use Rattle.list_memory.specs.Layouts.{layout_of, list_row_at}
 use Rattle.list_tokens.specs.declared.Token.{Token}
 use Rattle.list_forms.specs.Items.{word_at}
-use Rattle.list_reader.specs.Taking.{put_words, appended, next_number, next_row, append_times, append_run, fixed_rows}
+use Rattle.list_forms.specs.Plans.{saturated}
+use Rattle.list_reader.specs.Taking.{appended, next_row, append_times, append_run, fixed_rows}
 
 -- a row of 5 words at most, of 65,535 rows at most
 pub row_within : (width n : ℕ) → width ≤ 5 → n ≤ 65535 → width * n ≤ 327675
 row_within width n h e = mul-le-mul h e
 
--- i of w words of a row are put
-pub record Putting (start : List ℕ) (at : ℕ) (row : List ℕ) (w : ℕ) (ws : List ℕ) (i : ℕ) : Type 0 where
-  pub within : i ≤ w
-  pub same : put_words w start at row 0 ≡ put_words (w - i) ws at row i
+-- a row below its table's ceiling lies in the list
+pub row_in_list : (k : Table) (n : ℕ) → n < (layout_of k).ceiling → list_row_at k n + (layout_of k).width ≤ memory_words
+unfolding layout_of
+row_in_list Table.Sorts n h = omega (arith, h)
+row_in_list Table.Entries n h = omega (arith, h)
+row_in_list Table.Nodes n h = omega (arith, h)
+row_in_list Table.NodeEntries n h = omega (arith, h)
+row_in_list Table.Vars n h = omega (arith, h)
+row_in_list Table.Exprs n h = omega (arith, h)
+row_in_list Table.Names n h = omega (arith, h)
+row_in_list Table.Constraints n h = omega (arith, h)
+row_in_list Table.Overloads n h = omega (arith, h)
+row_in_list Table.Sources n h = omega (arith, h)
 
-pub putting_none : (ws : List ℕ) (at : ℕ) (row : List ℕ) (w : ℕ) → Putting ws at row w ws 0
-putting_none ws at row w = record { within = omega arith; same = ap (λ (m : ℕ). put_words m ws at row 0) (omega arith) }
-
-next_word : (m : ℕ) (ws : List ℕ) (at : ℕ) (row : List ℕ) (i : ℕ) → put_words (suc m) ws at row i ≡ put_words m (set ws (at + i) (get_or row i 0)) at row (i + 1)
-unfolding put_words
-next_word m ws at row i = refl
-
-no_word : (ws : List ℕ) (at : ℕ) (row : List ℕ) (i : ℕ) → put_words zero ws at row i ≡ ws
-unfolding put_words
-no_word ws at row i = refl
-
-module _ (start : List ℕ) (at : ℕ) (row : List ℕ) (w : ℕ) (ws : List ℕ) (i : ℕ) (g : Putting start at row w ws i) where
-  pub putting_more : i < w → (us : List ℕ) → us ≡ set ws (at + i) (get_or row i 0) → Putting start at row w us (i + 1)
-  putting_more h us e =
-      record {
-        within = omega arith;
-        same =
-            g.same
-            ∙ ap (λ (m : ℕ). put_words m ws at row i) (omega arith)
-            ∙ next_word (w - (i + 1)) ws at row i
-            ∙ ap (λ (l : List ℕ). put_words (w - (i + 1)) l at row (i + 1)) (sym e);
-      }
-
-  pub putting_all : w ≤ i → ws ≡ put_words w start at row 0
-  putting_all h = sym (g.same ∙ ap (λ (m : ℕ). put_words m ws at row i) (omega arith) ∙ no_word ws at row i)
+-- the second word of the next row
+word_grown : (n v : ℕ) → v ≡ min n (2 ^ 16 - 1) → v ≡ saturated n
+word_grown n v e = go (ltb 65535 n) refl
+  where
+    go : (b : Bool) → ltb 65535 n ≡ b → v ≡ cond b 65535 n
+    go true h = omega (arith, e, ltb-true 65535 n h)
+    go false h = omega (arith, e, ltb-false 65535 n h)
 
 -- i of n rows are appended, and `next` is the next of them
-pub record Adding (n : ℕ) (start : List ℕ) (k : Table) (rising : Bool) (row ws next : List ℕ) (i : ℕ) : Type 0 where
+pub record Adding (n : ℕ) (start : List ℕ) (k : Table) (step : ℕ) (row ws next : List ℕ) (i : ℕ) : Type 0 where
   pub within : i ≤ n
-  pub same : append_times n start k rising row ≡ append_times (n - i) ws k rising next
-
-pub adding_none : (n : ℕ) (ws : List ℕ) (k : Table) (rising : Bool) (row : List ℕ) → Adding n ws k rising row ws row 0
-adding_none n ws k rising row =
-    record { within = omega arith; same = ap (λ (m : ℕ). append_times m ws k rising row) (omega arith) }
+  pub same : append_times n start k step row ≡ append_times (n - i) ws k step next
 
 next_of_many :
-    (m : ℕ) (ws : List ℕ) (k : Table) (rising : Bool) (row : List ℕ)
-    → append_times (suc m) ws k rising row ≡ append_times m (appended ws k row) k rising (next_row rising row)
+    (m : ℕ) (ws : List ℕ) (k : Table) (step : ℕ) (row : List ℕ)
+    → append_times (suc m) ws k step row ≡ append_times m (appended ws k row) k step (next_row step row)
 unfolding append_times
-next_of_many m ws k rising row = refl
+next_of_many m ws k step row = refl
 
-none_of_many : (ws : List ℕ) (k : Table) (rising : Bool) (row : List ℕ) → append_times zero ws k rising row ≡ ws
+none_of_many : (ws : List ℕ) (k : Table) (step : ℕ) (row : List ℕ) → append_times zero ws k step row ≡ ws
 unfolding append_times
-none_of_many ws k rising row = refl
+none_of_many ws k step row = refl
 
-module _ (n : ℕ) (start : List ℕ) (k : Table) (rising : Bool) (row ws next : List ℕ) (i : ℕ)
-    (g : Adding n start k rising row ws next i) where
+module _ (n : ℕ) (start : List ℕ) (k : Table) (step : ℕ) (row ws next : List ℕ) (i : ℕ)
+    (g : Adding n start k step row ws next i) where
   pub adding_more :
-      i < n → (us : List ℕ) → us ≡ appended ws k next → (v : ℕ) → v ≡ next_number rising (get_or next 1 0)
-      → Adding n start k rising row us (set next 1 v) (i + 1)
+      i < n → (us : List ℕ) → us ≡ appended ws k next → (v : ℕ) → v ≡ min (get_or next 1 0 + step) (2 ^ 16 - 1)
+      → Adding n start k step row us (set next 1 v) (i + 1)
   adding_more h us e v f =
       record {
         within = omega arith;
         same =
             g.same
-            ∙ ap (λ (m : ℕ). append_times m ws k rising next) (omega arith)
-            ∙ next_of_many (n - (i + 1)) ws k rising next
-            ∙ ap (λ (l : List ℕ). append_times (n - (i + 1)) l k rising (next_row rising next)) (sym e)
-            ∙ ap (λ (b : ℕ). append_times (n - (i + 1)) us k rising (set next 1 b)) (sym f);
+            ∙ ap (λ (m : ℕ). append_times m ws k step next) (omega arith)
+            ∙ next_of_many (n - (i + 1)) ws k step next
+            ∙ ap (λ (l : List ℕ). append_times (n - (i + 1)) l k step (next_row step next)) (sym e)
+            ∙ ap (λ (b : ℕ). append_times (n - (i + 1)) us k step (set next 1 b)) (sym (word_grown _ v f));
       }
 
-  pub adding_all : n ≤ i → ws ≡ append_times n start k rising row
-  adding_all h = sym (g.same ∙ ap (λ (m : ℕ). append_times m ws k rising next) (omega arith) ∙ none_of_many ws k rising next)
+  pub adding_all : n ≤ i → ws ≡ append_times n start k step row
+  adding_all h = sym (g.same ∙ ap (λ (m : ℕ). append_times m ws k step next) (omega arith) ∙ none_of_many ws k step next)
 
 -- the words of the line before i are appended
 pub record Running (start : List ℕ) (k : Table) (t : List Token) (from to : ℕ) (ws : List ℕ) (i : ℕ) : Type 0 where
   pub same : append_run (to - from) start k t from ≡ append_run (to - i) ws k t i
-
-pub running_none : (ws : List ℕ) (k : Table) (t : List Token) (from to : ℕ) → Running ws k t from to ws from
-running_none ws k t from to = record { same = refl }
 
 next_of_run :
     (m : ℕ) (ws : List ℕ) (k : Table) (t : List Token) (i : ℕ)

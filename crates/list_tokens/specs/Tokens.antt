@@ -29,18 +29,18 @@ number_read w =
     (cond (eqb (get_or w 0 0) (byte_of "0")) None (decimal_read 0 w)))
 
 -- a number as a word of a class
-abbrev pub numbered : (ℕ → Token) → Option ℕ → Token
-numbered class None = Token.Other
-numbered class (Some n) = class n
+abbrev pub of_class : (ℕ → Token) → Option ℕ → Token
+of_class class None = Token.Other
+of_class class (Some n) = class n
 
 -- a number, or a letter and a number: s, n, v, e
 unfoldable pub name_token : List ℕ → Token
 name_token w =
-    cond (eqb (get_or w 0 0) (byte_of "s")) (numbered (λ n. Token.Sort n) (number_read (drop 1 w)))
-    (cond (eqb (get_or w 0 0) (byte_of "n")) (numbered (λ n. Token.Node n) (number_read (drop 1 w)))
-    (cond (eqb (get_or w 0 0) (byte_of "v")) (numbered (λ n. Token.Var n) (number_read (drop 1 w)))
-    (cond (eqb (get_or w 0 0) (byte_of "e")) (numbered (λ n. Token.Expr n) (number_read (drop 1 w)))
-    (numbered (λ n. Token.Number n) (number_read w)))))
+    cond (eqb (get_or w 0 0) (byte_of "s")) (of_class (λ n. Token.Sort n) (number_read (drop 1 w)))
+    (cond (eqb (get_or w 0 0) (byte_of "n")) (of_class (λ n. Token.Node n) (number_read (drop 1 w)))
+    (cond (eqb (get_or w 0 0) (byte_of "v")) (of_class (λ n. Token.Var n) (number_read (drop 1 w)))
+    (cond (eqb (get_or w 0 0) (byte_of "e")) (of_class (λ n. Token.Expr n) (number_read (drop 1 w)))
+    (of_class (λ n. Token.Number n) (number_read w)))))
 
 -- a word by its bytes
 abbrev pub token_by : Option Keyword → List ℕ → Token

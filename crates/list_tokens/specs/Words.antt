@@ -144,7 +144,17 @@ same_word a b = eqb (place_of a) (place_of b)
 
 abbrev pub keywords : List Keyword
 keywords =
-    Keyword.List ∷ Keyword.Bare ∷ Keyword.Sort ∷ Keyword.Entries ∷ Keyword.Node ∷ Keyword.NodeEntries ∷ Keyword.Pad ∷ Keyword.Var ∷ Keyword.Vars ∷ Keyword.Bind ∷ Keyword.Expr ∷ Keyword.Name ∷ Keyword.Default ∷ Keyword.Ceilings ∷ Keyword.Count ∷ Keyword.Lend ∷ Keyword.Sub ∷ Keyword.Lit ∷ Keyword.Comprehension ∷ Keyword.Disjunction ∷ Keyword.Join ∷ Keyword.Constraint ∷ Keyword.Overload ∷ Keyword.Ask ∷ Keyword.Answer ∷ Keyword.ListOf ∷ Keyword.SetOf ∷ Keyword.FSetOf ∷ Keyword.BagOf ∷ Keyword.FBagOf ∷ Keyword.Fn ∷ Keyword.Def ∷ Keyword.TypeVar ∷ Keyword.Raw ∷ Keyword.Arrow ∷ Keyword.Variable ∷ Keyword.Op ∷ Keyword.Builtin ∷ Keyword.Positive ∷ Keyword.Natural ∷ Keyword.Sorts ∷ Keyword.Nodes ∷ Keyword.Bindings ∷ Keyword.Exprs ∷ Keyword.Names ∷ Keyword.Constraints ∷ Keyword.Overloads ∷ Keyword.Sources ∷ Keyword.Scratch ∷ Keyword.OutTyping ∷ Keyword.OutMeasure ∷ Keyword.OutChoices ∷ Keyword.Solve ∷ Keyword.Unify ∷ Keyword.PartialCmp ∷ Keyword.Meet ∷ Keyword.WideningDistance ∷ Keyword.IsMaterializable ∷ Keyword.Unit ∷ Keyword.Bool ∷ Keyword.Pos ∷ Keyword.Nat ∷ Keyword.Int ∷ Keyword.Real ∷ []
+    Keyword.List ∷ Keyword.Bare ∷ Keyword.Sort ∷ Keyword.Entries ∷ Keyword.Node ∷ Keyword.NodeEntries ∷ Keyword.Pad
+    ∷ Keyword.Var ∷ Keyword.Vars ∷ Keyword.Bind ∷ Keyword.Expr ∷ Keyword.Name ∷ Keyword.Default ∷ Keyword.Ceilings
+    ∷ Keyword.Count ∷ Keyword.Lend ∷ Keyword.Sub ∷ Keyword.Lit ∷ Keyword.Comprehension ∷ Keyword.Disjunction
+    ∷ Keyword.Join ∷ Keyword.Constraint ∷ Keyword.Overload ∷ Keyword.Ask ∷ Keyword.Answer ∷ Keyword.ListOf
+    ∷ Keyword.SetOf ∷ Keyword.FSetOf ∷ Keyword.BagOf ∷ Keyword.FBagOf ∷ Keyword.Fn ∷ Keyword.Def ∷ Keyword.TypeVar
+    ∷ Keyword.Raw ∷ Keyword.Arrow ∷ Keyword.Variable ∷ Keyword.Op ∷ Keyword.Builtin ∷ Keyword.Positive
+    ∷ Keyword.Natural ∷ Keyword.Sorts ∷ Keyword.Nodes ∷ Keyword.Bindings ∷ Keyword.Exprs ∷ Keyword.Names
+    ∷ Keyword.Constraints ∷ Keyword.Overloads ∷ Keyword.Sources ∷ Keyword.Scratch ∷ Keyword.OutTyping
+    ∷ Keyword.OutMeasure ∷ Keyword.OutChoices ∷ Keyword.Solve ∷ Keyword.Unify ∷ Keyword.PartialCmp ∷ Keyword.Meet
+    ∷ Keyword.WideningDistance ∷ Keyword.IsMaterializable ∷ Keyword.Unit ∷ Keyword.Bool ∷ Keyword.Pos ∷ Keyword.Nat
+    ∷ Keyword.Int ∷ Keyword.Real ∷ []
 
 -- the word of the format that bytes are
 unfoldable pub keyword_of : List ℕ → Option Keyword

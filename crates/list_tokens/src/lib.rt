@@ -2,11 +2,12 @@
 #![tactic(auto)]
 
 ghost use Rattle.std.specs.Prelude.{◌≡◌, ◌≤◌, drop, take};
+ghost use Rattle.std.specs.Char.{is_ascii_digit};
 ghost use Rattle.std.specs.List.{list_all};
 ghost use Rattle.sort_text.specs.Tokens.{past};
 ghost use Rattle.sort_lexer.specs.Inner.Lexeme.{offset};
 ghost use Rattle.list_tokens.specs.Words.{spelling, keyword_of};
-ghost use Rattle.list_tokens.specs.Tokens.{decimal_read, number_read, numbered, name_token, token_of, in_word};
+ghost use Rattle.list_tokens.specs.Tokens.{number_read, of_class, name_token, token_of, in_word};
 ghost use Rattle.list_tokens.specs.Tokens.{tokens_of, is_printable, start_by, line_start};
 
 use sort_lexer::{between, run_end, skip_spaces};
@@ -81,6 +82,7 @@ pub enum Keyword {
 }
 
 // A word of a line: a word of the format, a number, a name (`sN`, `nN`, `vN`, `eN`) by its number, or none of these.
+// kept: a word that is none of these is a Token and no None: it counts among the words of its line, and fits no form.
 #[derive(Clone, Copy, Debug, PartialEq, Eq)]
 pub enum Token {
     Keyword(Keyword),
@@ -254,28 +256,22 @@ fn keyword_of(w: &[u8]) -> Option<Keyword>
         .copied()
 }
 
-// The number that digits say, up to 65,535.
-fn digits_of(w: &[u8]) -> Option<u16>
-    ensures { result ≡ decimal_read 0 w.now }
+// Whether all bytes are decimal digits.
+fn all_digits(w: &[u8]) -> bool
+    ensures { result ≡ list_all is_ascii_digit w.now }
 {
-    let mut value: u16 = 0;
-    for b in w {
-        if !b.is_ascii_digit() {
-            return None;
-        }
-        value = value.checked_mul(10)?.checked_add(u16::from(*b - b'0'))?;
-    }
-    Some(value)
+    w.iter().all(|b| b.is_ascii_digit())
 }
 
-// The number that a word says: at least one digit, and no zero before another one.
+// The number that a word says, up to 65,535: at least one digit, no sign, and no zero before another digit.
 #[tactic(auto, unfolding(crate::specs::Tokens::number_read))]
 fn number_of(w: &[u8]) -> Option<u16>
     ensures { result ≡ number_read w.now }
 {
     match w {
         [] | [b'0', _, ..] => None,
-        _ => digits_of(w),
+        _ if all_digits(w) => str::from_utf8(w).ok()?.parse().ok(),
+        _ => None,
     }
 }
 

@@ -20,8 +20,9 @@ use Rattle.line_input.specs.Lines.{LineRead, seen}
 use Rattle.line_input.specs.Taking.{held_lines}
 use Rattle.line_input.specs.Answers.{unread, NextLineFrom}
 use Rattle.line_input.proofs.Streams.{LinesLeft, one_line_more, all_lines_taken, found_line, found_end}
-use Rattle.list_reader.specs.Taking.{line_taken}
-use Rattle.list_lines.specs.Lines.{unasked_text, stage_of, printed, numbered, LineLeft, line_left, heard_line}
+use Rattle.list_memory.specs.declared.Stage.{Stage}
+use Rattle.list_reader.specs.Taking.{stage_is, line_taken}
+use Rattle.list_lines.specs.Lines.{unasked_text, printed, numbered, LineLeft, line_left, heard_line}
 use Rattle.list_lines.specs.Longest.{printed_room, held_line}
 use Rattle.list_lines.proofs.Longest.{printed_fits, end_fits}
 use Rattle.solve_lists.specs.Printed.{number_text, line_printed, all_printed}
@@ -95,12 +96,12 @@ module _ (ws line ws' : List ℕ) (o n : Out) (b : Bool) (e : line_left ws' n b 
         shown_more a c d _ _ (subst (λ x. Appends a c (number_text x k)) numbered_heard p) (subst (Appends c d) front_heard q)
 
 -- the end
-module _ (stage : ℕ) (o n : Out) (z : o.at ≡ 0) (r : printed_room ≤ length o.bytes.now) (e : n ≡ then_put o (unasked_text stage)) where
+module _ (unasked : Bool) (o n : Out) (z : o.at ≡ 0) (r : printed_room ≤ length o.bytes.now) (e : n ≡ then_put o (unasked_text unasked)) where
   pub end_within : n.at ≤ length n.bytes.now
-  end_within = put_within o n _ z (omega (arith, end_fits stage, r)) e
+  end_within = put_within o n _ z (omega (arith, end_fits unasked, r)) e
 
-  pub end_written : (a b : Option (List ℕ)) → Appends a b (take n.at n.bytes.now) → Appends a b (unasked_text stage)
-  end_written a b q = subst (Appends a b) (put_front o n _ z (omega (arith, end_fits stage, r)) e) q
+  pub end_written : (a b : Option (List ℕ)) → Appends a b (take n.at n.bytes.now) → Appends a b (unasked_text unasked)
+  end_written a b q = subst (Appends a b) (put_front o n _ z (omega (arith, end_fits unasked, r)) e) q
 
 -- The lines so far: what was printed for them is written, and what is left is printed from line n on.
 pub record Solving (xs : List ℕ) (most : ℕ) (known shown₀ shown : Option (List ℕ)) (ws₀ ws left : List ℕ) (n : ℕ) : Type 0 where
@@ -150,13 +151,13 @@ module _ (xs : List ℕ) (known shown₀ shown : Option (List ℕ)) (ws₀ ws : 
             (all_printed (n + 1) (line_taken ws (take r.length line')).words (held_lines (length line) (unread buffer' r ++ t.rest)))));
       }
 
-  pub all_solved : r.found ≡ End → (shown' : Option (List ℕ)) → Appends shown shown' (unasked_text (stage_of ws))
+  pub all_solved : r.found ≡ End → (shown' : Option (List ℕ)) → Appends shown shown' (unasked_text (stage_is ws Stage.Reading))
       → Appends shown₀ shown' (all_printed 1 ws₀ (held_lines (length line) xs))
   unfolding all_printed
   all_solved e shown' w =
       let t = all_lines_taken known known' buffer line input buffer' line' r next room some (unread buffer input ++ s.rest) [] here e in
       subst (Appends shown₀ shown') (sym (s.same ∙ ap (λ ls. s.text ++ all_printed n ws ls) t))
-      (shown_more shown₀ shown shown' s.text (unasked_text (stage_of ws)) s.written w)
+      (shown_more shown₀ shown shown' s.text (unasked_text (stage_is ws Stage.Reading)) s.written w)
 
 -- The same of a call of `next_line`, by its answer.
 module _ (xs : List ℕ) (known shown₀ shown : Option (List ℕ)) (ws₀ ws : List ℕ) (n : ℕ) (known' : Option (List ℕ)) (before after : Lines)
@@ -175,7 +176,7 @@ module _ (xs : List ℕ) (known shown₀ shown : Option (List ℕ)) (ws₀ ws : 
       (subst (λ (k : ℕ). Appends shown shown' (line_printed n ws (take k after.line.bytes.now))) f.1 w))
       (sym long) (ap (λ (k : ℕ). (line_taken ws (take k after.line.bytes.now)).words) (sym f.1) ∙ sym we) refl
 
-  pub all_read : r ≡ Ok None → (shown' : Option (List ℕ)) → Appends shown shown' (unasked_text (stage_of ws))
+  pub all_read : r ≡ Ok None → (shown' : Option (List ℕ)) → Appends shown shown' (unasked_text (stage_is ws Stage.Reading))
       → Appends shown₀ shown' (all_printed 1 ws₀ (held_lines (length before.line.bytes.now) xs))
   all_read e shown' w =
       all_solved xs known shown₀ shown ws₀ ws n known' before.buffer.now before.line.bytes.now (seen before Nothing)

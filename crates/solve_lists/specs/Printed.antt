@@ -4,8 +4,9 @@ use Rattle.std.specs.Prelude.{Bool, true, false, List, [], ◌∷◌, ◌++◌, 
 use Rattle.std.specs.Io.KnownBytes.{Appends}
 use Rattle.line_input.specs.Taking.{held_lines}
 use Rattle.list_memory.specs.Memory.{Taken}
-use Rattle.list_reader.specs.Taking.{line_taken}
-use Rattle.list_lines.specs.Lines.{unasked_text, stage_of, printed, numbered}
+use Rattle.list_memory.specs.declared.Stage.{Stage}
+use Rattle.list_reader.specs.Taking.{stage_is, line_taken}
+use Rattle.list_lines.specs.Lines.{unasked_text, printed, numbered}
 
 -- the number of a line, where it is to stand before what there is to say of it
 unfoldable pub number_text : Bool → ℕ → List ℕ
@@ -21,7 +22,7 @@ line_printed n ws line = taken_printed n ws line (line_taken ws line)
 
 -- the lines from line n on, and the end
 unfoldable pub all_printed : ℕ → List ℕ → List (List ℕ) → List ℕ
-all_printed n ws [] = unasked_text (stage_of ws)
+all_printed n ws [] = unasked_text (stage_is ws Stage.Reading)
 all_printed n ws (l ∷ ls) = line_printed n ws l ++ all_printed (n + 1) (line_taken ws l).words ls
 
 -- What is printed for all lines of the input, each as far as it is held, is written.

@@ -12,39 +12,59 @@
 ghost use Rattle.std.specs.Prelude.{◌≡◌, ◌<◌, ◌≤◌, length, take, OnOk};
 ghost use Rattle.std.specs.Io.KnownBytes.{Appends};
 ghost use Rattle.list_reader.specs.Taking.{line_taken};
-ghost use Rattle.list_lines.specs.Lines.{unasked_text, stage_of};
+ghost use Rattle.list_reader.specs.Taking.{stage_is};
+ghost use Rattle.list_memory.specs.declared.Stage.{Stage};
+ghost use Rattle.list_lines.specs.Lines.{unasked_text};
 ghost use Rattle.list_lines.specs.Longest.{printed_room, held_line};
 ghost use Rattle.solve_lists.specs.Printed.{number_text, line_printed, InputPrinted};
 
 use line_input::Lines;
 use list_lines::{HELD_LINE, PRINTED_ROOM, finish, hear};
 use list_memory::LIST_WORDS;
-use std::io;
+use list_reader::List;
+use std::fmt;
 use std::io::{Read, Write};
 use std::process::ExitCode;
 use text_out::Out;
 
-// The input cannot be read, or the output cannot be written: it is told where that is found.
-#[derive(Clone, Copy, Debug)]
-struct Failed;
-
-fn unread(rt: &impl Eprint) -> Failed {
-    let _ = eprintln!(rt; "solve_lists: the input cannot be read");
-    Failed
+// What ends the program before the input ends.
+#[derive(Clone, Copy, Debug, PartialEq, Eq)]
+enum Failed {
+    Input,
+    Output,
+    // The input, and then what there was to say at the end.
+    InputAndOutput,
+    Endless,
 }
 
-fn unwritten(rt: &impl Eprint) -> Failed {
-    let _ = eprintln!(rt; "solve_lists: the output cannot be written");
-    Failed
+impl fmt::Display for Failed {
+    fn fmt<W: fmt::Write>(&self, f: &mut fmt::Formatter<W>) -> fmt::Result {
+        match self {
+            Failed::Input => write!(f, "the input cannot be read"),
+            Failed::Output => write!(f, "the output cannot be written"),
+            Failed::InputAndOutput => write!(
+                f,
+                "the input cannot be read\nsolve_lists: the output cannot be written"
+            ),
+            Failed::Endless => write!(f, "the input does not end"),
+        }
+    }
+}
+
+// Bytes of the output written.
+fn write<W: Write>(to: &mut W, bytes: &[u8]) -> Result<(), Failed>
+    ensures { OnOk result (Appends (W.contents to.old) (W.contents to.new) bytes.now) }
+{
+    to.write_all(bytes).map_err(|_| Failed::Output)
 }
 
 // The number of a line, where it is to stand before what there is to say of it.
 #[tactic(auto, unfolding(crate::specs::Printed::number_text))]
-fn write_number<W: Write>(to: &mut W, numbered: bool, number: u64) -> io::Result<()>
+fn write_number<W: Write>(to: &mut W, numbered: bool, number: u64) -> Result<(), Failed>
     ensures { OnOk result (Appends (W.contents to.old) (W.contents to.new) (number_text numbered number)) }
 {
     if numbered {
-        return write!(to, "line {number}: ");
+        return write!(to, "line {number}: ").map_err(|_| Failed::Output);
     }
     Ok(())
 }
@@ -52,14 +72,15 @@ fn write_number<W: Write>(to: &mut W, numbered: bool, number: u64) -> io::Result
 // A line of the input, and its output, of which nothing is cut (`nothing_is_cut` of list_lines).
 fn write_line<W: Write>(
     to: &mut W,
-    list: &mut [u16; LIST_WORDS],
+    list: &mut List,
     line: &[u8],
     number: u64,
     memory: &mut [u8],
-) -> io::Result<()>
+) -> Result<(), Failed>
     requires { (length line.now ≤ held_line) × (printed_room ≤ length memory.old) }
-    ensures words { list.new ≡ (line_taken list.old line.now).words }
-    ensures written { OnOk result (Appends (W.contents to.old) (W.contents to.new) (line_printed number list.old line.now)) }
+    ensures words { list.new.words ≡ (line_taken list.old.words line.now).words }
+    ensures written { OnOk result
+        (Appends (W.contents to.old) (W.contents to.new) (line_printed number list.old.words line.now)) }
 {
     let mut out = Out {
         bytes: memory,
@@ -68,7 +89,7 @@ fn write_line<W: Write>(
     let numbered = hear(list, line, &mut out);
     write_number(to, numbered, number)?;
     let end = out.at;
-    to.write_all(&out.bytes[..end])
+    write(to, &out.bytes[..end])
 }
 
 // What is held of a line.
@@ -80,9 +101,10 @@ fn held_of<'a>(lines: &'a Lines<'_>, held: usize) -> &'a [u8]
 }
 
 // What there is to say at the end of the input.
-fn write_end<W: Write>(to: &mut W, list: &[u16; LIST_WORDS], memory: &mut [u8]) -> io::Result<()>
+fn write_end<W: Write>(to: &mut W, list: &List, memory: &mut [u8]) -> Result<(), Failed>
     requires { printed_room ≤ length memory.old }
-    ensures { OnOk result (Appends (W.contents to.old) (W.contents to.new) (unasked_text (stage_of list.now))) }
+    ensures { OnOk result (Appends (W.contents to.old) (W.contents to.new)
+        (unasked_text (stage_is list.now.words Stage.Reading))) }
 {
     let mut out = Out {
         bytes: memory,
@@ -90,58 +112,48 @@ fn write_end<W: Write>(to: &mut W, list: &[u16; LIST_WORDS], memory: &mut [u8]) 
     };
     finish(list, &mut out);
     let end = out.at;
-    to.write_all(&out.bytes[..end])
+    write(to, &out.bytes[..end])
 }
 
 // All lines. A proved loop has to end, and nothing says that an input does: so many lines no run takes.
 fn solve_all<R: Read, W: Write>(
-    rt: &impl Eprint,
     reader: &mut R,
     to: &mut W,
-    list: &mut [u16; LIST_WORDS],
+    list: &mut List,
     buffer: &mut [u8],
     line: &mut [u8],
     out: &mut [u8],
 ) -> Result<(), Failed>
     requires { (length line.old ≤ held_line) × (printed_room ≤ length out.old) }
     ensures { OnOk result (0 < length buffer.old → 0 < length line.old
-        → InputPrinted (R.remaining reader.old) (W.contents to.old) (W.contents to.new) list.old (length line.old)) }
+        → InputPrinted (R.remaining reader.old) (W.contents to.old) (W.contents to.new)
+        list.old.words (length line.old)) }
 {
     let mut lines = Lines::new(buffer, line);
     for number in 1..=u64::MAX {
         match lines.next_line(reader) {
-            Ok(Some(held)) => match write_line(to, list, held_of(&lines, held), number, out) {
-                Ok(()) => {}
-                Err(_) => return Err(unwritten(rt)),
-            },
-            Ok(None) => {
-                return match write_end(to, list, out) {
-                    Ok(()) => Ok(()),
-                    Err(_) => Err(unwritten(rt)),
-                };
-            }
+            Ok(Some(held)) => write_line(to, list, held_of(&lines, held), number, out)?,
+            Ok(None) => return write_end(to, list, out),
             Err(_) => {
-                let failed = unread(rt);
-                return match write_end(to, list, out) {
-                    Ok(()) => Err(failed),
-                    Err(_) => Err(unwritten(rt)),
-                };
+                write_end(to, list, out).map_err(|_| Failed::InputAndOutput)?;
+                return Err(Failed::Input);
             }
         }
     }
-    Err(Failed)
+    Err(Failed::Endless)
 }
 
 // A read or a write that failed ends the program with status 1.
 fn main(rt: HostRuntime) -> ExitCode {
     let mut reader = rt.stdin();
     let mut to = rt.stdout();
-    let mut list = [0u16; LIST_WORDS];
+    let mut list = List {
+        words: [0; LIST_WORDS],
+    };
     let mut buffer = [0u8; BUFFER_BYTES];
     let mut line = [0u8; HELD_LINE];
     let mut out = [0u8; PRINTED_ROOM];
     match solve_all(
-        &rt,
         &mut reader,
         &mut to,
         &mut list,
@@ -150,7 +162,10 @@ fn main(rt: HostRuntime) -> ExitCode {
         &mut out,
     ) {
         Ok(()) => ExitCode::SUCCESS,
-        Err(Failed) => ExitCode::FAILURE,
+        Err(failed) => {
+            let _ = eprintln!(rt; "solve_lists: {failed}");
+            ExitCode::FAILURE
+        }
     }
 }
 

@@ -15,5 +15,5 @@ invariant-loop-number g l =
       line_long : length l.lines.line.bytes.now ≡ length l.fn.line;
       solving : (xs : List ℕ) → g.R.Read.remaining l.initial.reader ≡ Some xs → 0 < length l.fn.buffer → 0 < length l.fn.line
           → Solving xs (length l.lines.line.bytes.now) (g.R.Read.remaining l.reader) (g.W.Write.contents l.initial.to)
-          (g.W.Write.contents l.to) l.initial.list l.list (unread l.lines.buffer.now (seen l.lines Nothing)) l.number;
+          (g.W.Write.contents l.to) l.initial.list.words l.list.words (unread l.lines.buffer.now (seen l.lines Nothing)) l.number;
     }

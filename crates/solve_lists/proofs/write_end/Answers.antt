@@ -5,8 +5,8 @@ use Rattle.std.proofs.lemmas.Result.{on_ok_weaker}
 use Rattle.solve_lists.proofs.Runs as law
 use Rattle.solve_lists.proofs.write_end.Goals as goal
 
-pub slice_bounds-write_all-end : goal.slice_bounds-write_all-end
-slice_bounds-write_all-end g c = sym (length-take-le _ _ (law.end_within _ _ _ refl c.requires c.finish.ensures))
+pub slice_bounds-write-end : goal.slice_bounds-write-end
+slice_bounds-write-end g c = sym (length-take-le _ _ (law.end_within _ _ _ refl c.requires c.finish.ensures))
 
 pub returns : goal.returns
-returns g c = on_ok_weaker _ (law.end_written _ _ _ refl c.requires c.finish.ensures _ _) c.write_all.ensures.bytes
+returns g c = on_ok_weaker _ (law.end_written _ _ _ refl c.requires c.finish.ensures _ _) c.write.ensures

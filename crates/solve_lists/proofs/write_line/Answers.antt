@@ -9,8 +9,8 @@ use Rattle.solve_lists.proofs.write_line.Goals as goal
 pub returns-in_err-write_number-clause-words : goal.returns-in_err-write_number-clause-words
 returns-in_err-write_number-clause-words g c = law.words_heard _ _ _ _ _ _ c.hear-numbered.ensures
 
-pub slice_bounds-write_all-end : goal.slice_bounds-write_all-end
-slice_bounds-write_all-end g c =
+pub slice_bounds-write-end : goal.slice_bounds-write-end
+slice_bounds-write-end g c =
     sym (length-take-le _ _ (law.heard_within _ _ _ _ _ _ c.hear-numbered.ensures refl c.requires.0 c.requires.1))
 
 pub returns-clause-words : goal.returns-clause-words
@@ -20,4 +20,4 @@ pub returns-clause-written : goal.returns-clause-written
 returns-clause-written g c =
     on_ok_weaker _
     (law.line_written _ _ _ _ _ _ c.hear-numbered.ensures refl c.requires.0 c.requires.1 c.args.number _ _ _ c.in_ok-write_number.ensures)
-    c.write_all.ensures.bytes
+    c.write.ensures

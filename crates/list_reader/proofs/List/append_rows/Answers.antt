@@ -1,6 +1,6 @@
 -- Row after row. Assumes nothing.
 use Rattle.list_reader.proofs.Rows as law
-use Rattle.list_reader.proofs.append_rows.Goals as goal
+use Rattle.list_reader.proofs.List.append_rows.Goals as goal
 
 pub loop-i-preserved : goal.loop-i-preserved
 loop-i-preserved c = search law.adding_more
