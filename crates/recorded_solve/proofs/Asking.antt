@@ -6,7 +6,7 @@ use lib.Seq.{sets}
 use Rattle.words.specs.Words.{part}
 use Rattle.recorded_solve.specs.declared.Slices.{Slices}
 use Rattle.recorded_solve.specs.Inner.Outcome.{solved}
-use Rattle.recorded_solve.specs.Inner.Slices.{slice_start, slices_held, packed_of, call_held_in, call_held, kept_in, kept_of, left_held}
+use Rattle.recorded_solve.specs.Inner.Slices.{slice_start, slices_held, packed_of, call_held_in, call_held, kept_in, slices_kept, left_held}
 use Rattle.recorded_solve.specs.Inner.Lines.{reply, ask_of}
 
 module _ (us ss ns bs xs ts ms cs : List ℕ) where
@@ -31,7 +31,7 @@ sliced ws ss ns bs xs ts ms cs es en eb ex et em ec =
     λ i. record { sorts = es i; nodes = en i; binds = eb i; scratch = ex i; typing = et i; measure = em i; choices = ec i }
 
 pub asked : (ws : List ℕ) (s s' : Slices) (r : ℕ) (us : List ℕ) → s ≡ slices_held ws → packed_of s' r ≡ solved (call_held_in ws s)
-    → us ≡ kept_of ws s' → reply us r ≡ ask_of ws
+    → us ≡ slices_kept ws s' → reply us r ≡ ask_of ws
 unfolding ask_of
 asked ws s s' r us es e u =
     let p : packed_of s' r ≡ solved (call_held ws) = e ∙ ap (λ x. solved (call_held_in ws x)) es in

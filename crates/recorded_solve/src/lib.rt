@@ -13,13 +13,14 @@
 // its ceiling, and after them the eleven numbers of the line `L`.
 #![tactic(auto)]
 
-ghost use Rattle.std.specs.Prelude.{◌≡◌, ◌≤◌, length, IfSome};
+ghost use Rattle.std.specs.Prelude.{◌≡◌, ◌+◌, ◌≤◌, length, IfSome};
+ghost use Rattle.words.specs.Words.{part};
 ghost use Rattle.replay.specs.Inner.Lines.{near_enough};
 ghost use Rattle.replay.specs.Inner.Numbers.{max_fields};
 ghost use Rattle.recorded_solve.specs.Inner.Slices.{held_counts_at, slice_start, count_held, counts_held};
-ghost use Rattle.recorded_solve.specs.Inner.Slices.{call_held_in, kept_of, slices_held, packed_of};
+ghost use Rattle.recorded_solve.specs.Inner.Slices.{call_held_in, slices_kept, slices_held, packed_of};
 ghost use Rattle.recorded_solve.specs.Inner.Outcome.{solved};
-ghost use Rattle.recorded_solve.specs.Inner.Lines.{letter_of, start_in, compared_from, recorded_of, started};
+ghost use Rattle.recorded_solve.specs.Inner.Lines.{letter_of, start_in, compared_from, recorded_of, solve_started};
 ghost use Rattle.recorded_solve.specs.Inner.Lines.{reply, ask_of, begin_line, give_line, compare_line, ask_line};
 
 use inference::{MAX_COMPONENTS, SCRATCH_WORDS};
@@ -182,6 +183,7 @@ fn start_of_words(numbers: &[u64]) -> Option<usize>
 }
 
 // Words, from a word on, compared with those recorded: all agree, or the first that is another.
+// kept: words beside numbers of 64 bits, of which the first that differs is named: an equality of slices says neither.
 fn compare(left: &[u16], start: usize, recorded: &[u64]) -> Verdict
     requires { (start ≤ near_enough) × (length recorded.now ≤ max_fields) }
     ensures { result ≡ compared_from left.now start recorded.now }
@@ -242,28 +244,30 @@ fn counts_of(given: &[u16]) -> HeldCounts
     }
 }
 
+// So many of the words given, from a word on.
+fn copied<const N: usize>(given: &[u16], at: usize) -> [u16; N]
+    requires { at + N ≤ length given.now }
+    ensures { result ≡ part at N given.now }
+{
+    let mut words = [0; N];
+    copy(&mut words, 0, given, at, N);
+    words
+}
+
 impl Slices {
     // The slices among the words given.
     fn of(given: &[u16; HELD_WORDS]) -> Slices
         ensures { result ≡ slices_held given.now }
     {
-        let mut slices = Slices {
-            sorts: [0; SORT_WORDS],
-            nodes: [0; NODE_WORDS],
-            binds: [0; MAX_VARS],
-            scratch: [0; SCRATCH_WORDS],
-            typing: [0; TYPING_ROOM],
-            measure: [0; MAX_COMPONENTS],
-            choices: [0; CHOICES_ROOM],
-        };
-        copy(&mut slices.sorts, 0, given, 0, SORT_WORDS);
-        copy(&mut slices.nodes, 0, given, NODES_AT, NODE_WORDS);
-        copy(&mut slices.binds, 0, given, BINDS_AT, MAX_VARS);
-        copy(&mut slices.scratch, 0, given, SCRATCH_AT, SCRATCH_WORDS);
-        copy(&mut slices.typing, 0, given, TYPING_AT, TYPING_ROOM);
-        copy(&mut slices.measure, 0, given, MEASURE_AT, MAX_COMPONENTS);
-        copy(&mut slices.choices, 0, given, CHOICES_AT, CHOICES_ROOM);
-        slices
+        Slices {
+            sorts: copied(given, 0),
+            nodes: copied(given, NODES_AT),
+            binds: copied(given, BINDS_AT),
+            scratch: copied(given, SCRATCH_AT),
+            typing: copied(given, TYPING_AT),
+            measure: copied(given, MEASURE_AT),
+            choices: copied(given, CHOICES_AT),
+        }
     }
 
     // What the solver answers about the list, and what it leaves in the slices.
@@ -301,7 +305,7 @@ impl Slices {
 
     // The slices kept in their places among the words left.
     fn keep(&self, left: &mut [u16; HELD_WORDS])
-        ensures { left.new ≡ kept_of left.old self.now }
+        ensures { left.new ≡ slices_kept left.old self.now }
     {
         copy(left, 0, &self.sorts, 0, SORT_WORDS);
         copy(left, NODES_AT, &self.nodes, 0, NODE_WORDS);
@@ -316,7 +320,7 @@ impl Slices {
 impl RecordedSolve {
     // Where reading starts: no words.
     pub fn new() -> RecordedSolve
-        ensures { result ≡ started }
+        ensures { result ≡ solve_started }
     {
         RecordedSolve {
             given: [0; HELD_WORDS],

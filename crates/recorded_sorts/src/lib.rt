@@ -10,7 +10,7 @@ ghost use Rattle.replay.specs.Inner.Lines.{near_enough};
 ghost use Rattle.replay.specs.Inner.Numbers.{max_fields};
 ghost use Rattle.recorded_sorts.specs.Inner.Lines.{letter_of, complete as is_complete, keep_of};
 ghost use Rattle.recorded_sorts.specs.Inner.Lines.{begin_line, row_line, run_line, packed_answer, ask_line};
-ghost use Rattle.recorded_sorts.specs.Inner.Lines.{started};
+ghost use Rattle.recorded_sorts.specs.Inner.Lines.{sorts_started};
 
 use replay::{MAX_WORDS, Recorded, Verdict, store};
 use resolved_sort::{ENTRIES_AT, ROW_WORDS, SORT_WORDS};
@@ -118,7 +118,7 @@ fn ask(
 impl RecordedSorts {
     // Where reading starts: an empty list, complete.
     pub fn new() -> RecordedSorts
-        ensures { result ≡ started }
+        ensures { result ≡ sorts_started }
     {
         RecordedSorts {
             words: [0; SORT_WORDS],

@@ -11,7 +11,7 @@ use Rattle.replay.specs.Inner.Lines.{counted_of}
 use Rattle.replay.specs.Said.{said_of, end_said}
 use Rattle.replay.specs.Replays.{line_step, line_text, Run, started, after_line, after_lines, Replayed}
 
-appends_more : (a b c : Option (List ℕ)) (xs ys : List ℕ) → Appends a b xs → Appends b c ys → Appends a c (xs ++ ys)
+pub appends_more : (a b c : Option (List ℕ)) (xs ys : List ℕ) → Appends a b xs → Appends b c ys → Appends a c (xs ++ ys)
 appends_more None b c xs ys p q = tt
 appends_more (Some ms) None c xs ys p q = absurd p
 appends_more (Some ms) (Some ns) None xs ys p q = absurd q

@@ -9,10 +9,10 @@ use lib.ListN.{length, get_or, set, drop, drop_of_length-le}
 use lib.Seq.{drop-cons}
 use borrow.Author.Tests.{lt-ltb, le-ltb, ltb-true, ltb-false}
 use lib.Dec.{ltb}
-use Rattle.replay.specs.Inner.Lines.{kept, store_from, most_count, one_more}
+use Rattle.replay.specs.Inner.Lines.{words_kept, store_from, most_count, one_more}
 
 module _ (values : List ℕ) (i : ℕ) (ws : List ℕ) (at : ℕ) where
-  pub none_more : i < length values → 65535 < get_or values i 0 → kept ws false ≡ store_from ws at (drop i values)
+  pub none_more : i < length values → 65535 < get_or values i 0 → words_kept ws false ≡ store_from ws at (drop i values)
   unfolding store_from
   none_more h large = rw (drop-cons values i 0 h, lt-ltb _ _ large)
 
@@ -21,7 +21,7 @@ module _ (values : List ℕ) (i : ℕ) (ws : List ℕ) (at : ℕ) where
   unfolding store_from
   one_stored h small us e next n = rw (e, n, add-one, add-one) (rw (drop-cons values i 0 h, le-ltb _ _ small, add-one) refl)
 
-  pub all_stored : length values ≤ i → kept ws true ≡ store_from ws at (drop i values)
+  pub all_stored : length values ≤ i → words_kept ws true ≡ store_from ws at (drop i values)
   unfolding store_from
   all_stored h = rw (drop_of_length-le values h)
 

@@ -2,7 +2,7 @@
 use Rattle.std.specs.Prelude.{Bool, cond, List, [], ◌∷◌, ◌++◌, ℕ, leb, eqb, length, get_or, Option, Some, None}
 use Prim.Native.Char.{code}
 use Rattle.replay.specs.declared.Fields.{Fields}
-use Rattle.replay.specs.Inner.Numbers.{fields_of, numbers}
+use Rattle.replay.specs.Inner.Numbers.{fields_of, values_read}
 use Rattle.std.specs.Io.KnownBytes.{Appends}
 use Rattle.replay.specs.declared.Verdict.{Verdict}
 use Rattle.replay.specs.declared.Verdict.TheVariants.{Quiet, NotOfForm}
@@ -13,13 +13,17 @@ use Rattle.replay.specs.Said.{said_of, end_said}
 -- what is held after a line of a letter, and what came of it, where it is a letter and numbers
 unfoldable pub numbers_step : {S : Type 0} → (S → ℕ → List ℕ → S × Verdict) → S → ℕ → Option Fields → S × Verdict
 numbers_step step s letter None = (s, NotOfForm)
-numbers_step step s letter (Some f) = step s letter (numbers f)
+numbers_step step s letter (Some f) = step s letter (values_read f)
 
 -- a line: empty is not of the form, # says nothing, else a letter and numbers
 unfoldable pub step_of : {S : Type 0} → (S → ℕ → List ℕ → S × Verdict) → S → List ℕ → S × Verdict
 step_of step s line =
     cond (eqb (length line) 0) (s, NotOfForm)
     (cond (eqb (get_or line 0 0) (code "#")) (s, Quiet) (numbers_step step s (get_or line 0 0) (fields_of line)))
+
+-- so many bytes of a line are held: one more than a line may have
+abbrev pub held_line : ℕ
+held_line = 257
 
 -- a line that fills its memory is too long, and not of the form
 unfoldable pub line_step : {S : Type 0} → (S → ℕ → List ℕ → S × Verdict) → ℕ → S → List ℕ → S × Verdict

@@ -25,26 +25,25 @@ said_of number text (BindsOther variable) = other_said number text (codes ": ano
 said_of number text (LeavesOther word) = other_said number text (codes ": left ") word
 said_of number text NotOfForm = bad_said number
 
+-- what is said unless all is well, and counted as a line that does not agree
+unfoldable pub unless : Bool → List ℕ → List ℕ
+unless true text = []
+unless false text = text
+
+unfoldable pub counted_unless : Bool → Tally → Tally
+counted_unless true t = t
+counted_unless false t = counted_of t NotOfForm
+
 -- an input that cannot be read to its end, and a last list that is not complete
-unfoldable pub read_said : Bool → List ℕ
-read_said true = []
-read_said false = codes "the input cannot be read\n"
+abbrev pub read_said : Bool → List ℕ
+read_said read = unless read (codes "the input cannot be read\n")
 
-unfoldable pub counted_read : Bool → Tally → Tally
-counted_read true t = t
-counted_read false t = counted_of t NotOfForm
-
-unfoldable pub last_said : Bool → List ℕ
-last_said true = []
-last_said false = codes "the last list is not complete\n"
-
-unfoldable pub counted_last : Bool → Tally → Tally
-counted_last true t = t
-counted_last false t = counted_of t NotOfForm
+abbrev pub last_said : Bool → List ℕ
+last_said complete = unless complete (codes "the last list is not complete\n")
 
 abbrev pub checked_said : Tally → List ℕ
 checked_said t =
     codes "checked " ++ (decimal t.questions ++ (codes " answers, " ++ (decimal t.differ ++ codes " differ\n")))
 
 abbrev pub end_said : Tally → (read complete : Bool) → List ℕ
-end_said t read complete = read_said read ++ (last_said complete ++ checked_said (counted_last complete (counted_read read t)))
+end_said t read complete = read_said read ++ (last_said complete ++ checked_said (counted_unless complete (counted_unless read t)))

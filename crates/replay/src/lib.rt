@@ -2,25 +2,28 @@
 // differ, and what is said of a line and at the end.
 #![tactic(auto)]
 
-ghost use Rattle.std.specs.Prelude.{Bool, List, ℕ, ◌≡◌, ◌+◌, ◌*◌, ◌≤◌, length, OnOk, IfOk, IfSome};
-ghost use Rattle.replay.specs.Inner.Numbers.{max_fields, number_at, fields_of, numbers};
+ghost use Rattle.std.specs.Prelude.{Bool, List, ℕ, ◌≡◌, ◌+◌, ◌*◌, ◌≤◌, length, drop, OnOk, IfOk, IfSome};
+ghost use Rattle.replay.specs.Inner.Numbers.{max_fields, digits, number_at, fields_of, values_read};
 ghost use Rattle.std.specs.Io.KnownBytes.{Appends};
-ghost use Rattle.replay.specs.Said.{line_said, bad_said, other_said, said_of, read_said, counted_read, last_said, counted_last, end_said};
-ghost use Rattle.replay.specs.Replays.{step_of, line_step, line_text, Replayed};
-ghost use Rattle.replay.specs.Inner.Lines.{near_enough, kept, store_from, one_more, counted_of};
+ghost use Rattle.replay.specs.Said.{line_said, bad_said, other_said, said_of, unless, counted_unless, end_said};
+ghost use Rattle.replay.specs.Replays.{step_of, line_step, line_text, held_line, Replayed};
+ghost use Rattle.replay.specs.Inner.Lines.{near_enough, words_kept, store_from, one_more, counted_of};
 
 use line_input::Lines;
 use std::io;
 use std::io::{Read, Write};
 use words::{MOST_WORD, put};
 
-// How many numbers a line has at most, how many words of a list it gives at most, and the largest count.
+// How many numbers a line has at most, and how many words of a list it gives at most.
 pub const MAX_FIELDS: usize = 18;
 
 pub const MAX_WORDS: usize = 16;
 
 // So many bytes of a line are held: one more than a line may have, which shows that it is too long.
 pub const HELD_LINE: usize = 257;
+
+// The input is read in parts of at most so many bytes.
+const BUFFER_BYTES: usize = 4096;
 
 // Past this a number has one digit too many to take another.
 const MOST_VALUE: u64 = 999999999999999999;
@@ -53,20 +56,40 @@ pub struct Tally {
     pub differ: u64,
 }
 
+// The line from a position on; past its end it is empty.
+fn rest(line: &[u8], at: usize) -> &[u8]
+    ensures { result.now ≡ drop at line.now }
+{
+    line.get(at..).unwrap_or(&[])
+}
+
+// How many digits a text starts with.
+fn digit_count(text: &[u8]) -> usize
+    ensures { result ≡ length (digits text.now) }
+{
+    text.iter()
+        .position(|byte| !byte.is_ascii_digit())
+        .unwrap_or(text.len())
+}
+
 // The number at a position of a line, by its decimal digits, of which it has at least one, and the position past them.
 fn number_at(line: &[u8], at: usize) -> Option<(u64, usize)>
     ensures { result ≡ number_at line.now at }
 {
+    let text = rest(line, at);
+    let count = digit_count(text);
     let mut value: u64 = 0;
-    let mut end = at;
-    while end < line.len() && line[end].is_ascii_digit() {
+    for digit in &text[..count] {
         if MOST_VALUE < value {
             return None;
         }
-        value = value * 10 + u64::from(line[end] - b'0');
-        end += 1;
+        value = value * 10 + u64::from(*digit - b'0');
     }
-    if end == at { None } else { Some((value, end)) }
+    if count == 0 {
+        None
+    } else {
+        Some((value, at + count))
+    }
 }
 
 // The numbers of a line after its letter: at most 18, each after one space; none where it is not a letter and numbers.
@@ -99,7 +122,7 @@ pub fn fields_of(line: &[u8]) -> Option<Fields>
 impl Fields {
     pub fn numbers(&self) -> &[u64]
         requires { self.now.count ≤ max_fields }
-        ensures numbers { result.now ≡ numbers self.now }
+        ensures numbers { result.now ≡ values_read self.now }
         ensures few { length result.now ≤ max_fields }
     {
         &self.values[..self.count]
@@ -109,7 +132,7 @@ impl Fields {
 // Numbers stored as the words from a word on, up to the first that is no word; whether all are words.
 pub fn store(list: &mut [u16], base: usize, values: &[u64]) -> bool
     requires { (base ≤ near_enough) × (length values.now ≤ max_fields) }
-    ensures { kept list.new result ≡ store_from list.old base values.now }
+    ensures { words_kept list.new result ≡ store_from list.old base values.now }
 {
     for (i, &value) in values.iter().enumerate() {
         if MOST_WORD < value {
@@ -206,29 +229,16 @@ pub fn say<W: Write>(out: &mut W, number: u64, text: &[u8], verdict: Verdict) ->
     }
 }
 
-// An input that cannot be read to its end counts as a line that does not agree.
-#[tactic(auto, unfolding(crate::specs::Said::read_said, crate::specs::Said::counted_read))]
-fn finish_read<W: Write>(out: &mut W, tally: Tally, read: bool) -> io::Result<Tally>
-    ensures said { OnOk result (Appends (W.contents out.old) (W.contents out.new) (read_said read)) }
-    ensures counted { IfOk result (λ t. t ≡ counted_read read tally) }
+// What is said unless all is well, and counted as a line that does not agree.
+#[tactic(auto, unfolding(crate::specs::Said::unless, crate::specs::Said::counted_unless))]
+fn finish_unless<W: Write>(out: &mut W, tally: Tally, well: bool, text: &[u8]) -> io::Result<Tally>
+    ensures said { OnOk result (Appends (W.contents out.old) (W.contents out.new) (unless well text.now)) }
+    ensures counted { IfOk result (λ t. t ≡ counted_unless well tally) }
 {
-    if read {
+    if well {
         return Ok(tally);
     }
-    out.write_all(b"the input cannot be read\n")?;
-    Ok(tally.counted(Verdict::NotOfForm))
-}
-
-// A last list that is not complete counts as a line too.
-#[tactic(auto, unfolding(crate::specs::Said::last_said, crate::specs::Said::counted_last))]
-fn finish_last<W: Write>(out: &mut W, tally: Tally, complete: bool) -> io::Result<Tally>
-    ensures said { OnOk result (Appends (W.contents out.old) (W.contents out.new) (last_said complete)) }
-    ensures counted { IfOk result (λ t. t ≡ counted_last complete tally) }
-{
-    if complete {
-        return Ok(tally);
-    }
-    out.write_all(b"the last list is not complete\n")?;
+    out.write_all(text)?;
     Ok(tally.counted(Verdict::NotOfForm))
 }
 
@@ -237,8 +247,8 @@ fn finish_last<W: Write>(out: &mut W, tally: Tally, complete: bool) -> io::Resul
 fn finish<W: Write>(out: &mut W, tally: Tally, read: bool, complete: bool) -> io::Result<()>
     ensures { OnOk result (Appends (W.contents out.old) (W.contents out.new) (end_said tally read complete)) }
 {
-    let tally = finish_read(out, tally, read)?;
-    let tally = finish_last(out, tally, complete)?;
+    let tally = finish_unless(out, tally, read, b"the input cannot be read\n")?;
+    let tally = finish_unless(out, tally, complete, b"the last list is not complete\n")?;
     let questions = tally.questions;
     let differ = tally.differ;
     writeln!(out, "checked {questions} answers, {differ} differ")
@@ -337,4 +347,22 @@ pub fn replay_all<T: Recorded, R: Read, W: Write>(
         }
     }
     finish(out, tally, false, recorded.is_complete())
+}
+
+// All lines of a reader, asked again, in memory of this call's own.
+pub fn run<T: Recorded, R: Read, W: Write>(
+    recorded: &mut T,
+    reader: &mut R,
+    out: &mut W,
+) -> io::Result<()>
+    ensures { OnOk result (Replayed T.step T.complete held_line recorded.old (W.contents out.old) (W.contents out.new)) }
+{
+    let mut buffer = [0u8; BUFFER_BYTES];
+    let mut line = [0u8; HELD_LINE];
+    replay_all(
+        recorded,
+        &mut Lines::new(&mut buffer, &mut line),
+        reader,
+        out,
+    )
 }

@@ -6,21 +6,10 @@
 // how they were made, and `oracle/compare.sh unify` makes them again and compares.
 #![tactic(auto)]
 
-use line_input::Lines;
 use recorded_unify::RecordedUnify;
-use replay::{HELD_LINE, replay_all};
+use replay::run;
 use std::io;
 
 fn main(rt: HostRuntime) -> io::Result<()> {
-    let mut buffer = [0u8; BUFFER_BYTES];
-    let mut line = [0u8; HELD_LINE];
-    replay_all(
-        &mut RecordedUnify::new(),
-        &mut Lines::new(&mut buffer, &mut line),
-        &mut rt.stdin(),
-        &mut rt.stdout(),
-    )
+    run(&mut RecordedUnify::new(), &mut rt.stdin(), &mut rt.stdout())
 }
-
-// The input is read in parts of at most so many bytes.
-const BUFFER_BYTES: usize = 4096;

@@ -5,7 +5,7 @@ use Rattle.words.specs.Inner.Bits.{most_word}
 use Rattle.words.specs.Bits.{bit8, bit24, bit40, bit52}
 use Rattle.replay.specs.declared.Verdict.{Verdict}
 use Rattle.replay.specs.declared.Verdict.TheVariants.{Quiet, Agrees, LeavesOther, NotOfForm}
-use Rattle.replay.specs.Inner.Lines.{LineKept, store_from, verdict_of}
+use Rattle.replay.specs.Inner.Lines.{WordsKept, store_from, verdict_of}
 use Rattle.recorded_solve.specs.declared.Letter.{Letter}
 use Rattle.recorded_solve.specs.declared.Letter.TheVariants.{List as NewList, Gives, Asks, Left, Other}
 use Rattle.recorded_solve.specs.declared.RecordedSolve.{RecordedSolve}
@@ -49,22 +49,22 @@ abbrev pub quiet_if : Bool → Verdict
 quiet_if all = cond all Quiet NotOfForm
 
 -- words given
-abbrev pub given_of : RecordedSolve → LineKept → RecordedSolve × Verdict
-given_of s k = (record s { given = k.words }, quiet_if k.all)
+abbrev pub with_given : RecordedSolve → WordsKept → RecordedSolve × Verdict
+with_given s k = (record s { given = k.words }, quiet_if k.all)
 
 unfoldable pub no_words : List ℕ
 no_words = replicate held_words 0
 
-abbrev pub started : RecordedSolve
-started = record { given = replicate held_words 0; left = replicate held_words 0 }
+abbrev pub solve_started : RecordedSolve
+solve_started = record { given = replicate held_words 0; left = replicate held_words 0 }
 
 -- a new list: all words are zero but its counts
 unfoldable pub begin_line : RecordedSolve → List ℕ → RecordedSolve × Verdict
-begin_line s ns = cond (eqb (length ns) counts) (given_of s (store_from no_words held_counts_at ns)) (s, NotOfForm)
+begin_line s ns = cond (eqb (length ns) counts) (with_given s (store_from no_words held_counts_at ns)) (s, NotOfForm)
 
 unfoldable pub given_at : RecordedSolve → List ℕ → Option ℕ → RecordedSolve × Verdict
 given_at s vs None = (s, NotOfForm)
-given_at s vs (Some start) = given_of s (store_from s.given start vs)
+given_at s vs (Some start) = with_given s (store_from s.given start vs)
 
 abbrev pub give_line : RecordedSolve → List ℕ → RecordedSolve × Verdict
 give_line s ns = given_at s (drop 2 ns) (start_in ns)

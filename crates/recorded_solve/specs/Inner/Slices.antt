@@ -144,5 +144,5 @@ call_held_in ws s = call_held_with ws (counts_held ws) s.sorts s.nodes s.binds s
 abbrev pub packed_of : Slices → ℕ → PackedSolve
 packed_of s r = packed_solve r s.sorts s.nodes s.binds s.scratch s.typing s.measure s.choices
 
-abbrev pub kept_of : List ℕ → Slices → List ℕ
-kept_of ws s = kept_in ws s.sorts s.nodes s.binds s.scratch s.typing s.measure s.choices
+abbrev pub slices_kept : List ℕ → Slices → List ℕ
+slices_kept ws s = kept_in ws s.sorts s.nodes s.binds s.scratch s.typing s.measure s.choices

@@ -14,7 +14,7 @@ use Rattle.recorded_sorts.specs.declared.Progress.{Progress}
 use Rattle.replay.specs.declared.Verdict.{Verdict}
 use Rattle.replay.specs.declared.Verdict.TheVariants.{Quiet, NotOfForm}
 use Rattle.recorded_sorts.specs.declared.RecordedSorts.{RecordedSorts}
-use Rattle.replay.specs.Inner.Lines.{max_words, LineKept, store_from, verdict_of}
+use Rattle.replay.specs.Inner.Lines.{max_words, WordsKept, store_from, verdict_of}
 
 unfoldable pub letter_of : ℕ → Letter
 letter_of b =
@@ -34,14 +34,14 @@ complete p = cond (eqb p.rows p.sorts) (eqb p.filled p.entries) false
 abbrev pub not_of_form : RecordedSorts → RecordedSorts × Verdict
 not_of_form l = (l, NotOfForm)
 
-abbrev pub started : RecordedSorts
-started = record { words = replicate full_length 0; progress = record { sorts = 0; entries = 0; rows = 0; filled = 0 } }
+abbrev pub sorts_started : RecordedSorts
+sorts_started = record { words = replicate full_length 0; progress = record { sorts = 0; entries = 0; rows = 0; filled = 0 } }
 
 abbrev pub with_progress : RecordedSorts → Progress → RecordedSorts × Verdict
 with_progress l next = (record l { progress = next }, Quiet)
 
 -- words kept, all of them or up to one that is none
-abbrev pub kept_step : RecordedSorts → Progress → LineKept → RecordedSorts × Verdict
+abbrev pub kept_step : RecordedSorts → Progress → WordsKept → RecordedSorts × Verdict
 kept_step l next k =
     cond k.all (with_progress (record l { words = k.words }) next) (not_of_form (record l { words = k.words }))
 

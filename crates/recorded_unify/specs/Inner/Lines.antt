@@ -11,7 +11,7 @@ use Rattle.unify_entries.specs.Packed.{PackedBinds, pack_binds_left}
 use Rattle.words.specs.Words.{part}
 use Rattle.replay.specs.declared.Verdict.{Verdict}
 use Rattle.replay.specs.declared.Verdict.TheVariants.{Quiet, Agrees, Differs, BindsOther, NotOfForm}
-use Rattle.replay.specs.Inner.Lines.{max_words, LineKept, store_from}
+use Rattle.replay.specs.Inner.Lines.{max_words, WordsKept, store_from}
 use Rattle.recorded_unify.specs.declared.Part.{Part}
 use Rattle.recorded_unify.specs.declared.Part.TheVariants.{Sorts, Entries, Nodes, Arguments, Bindings}
 use Rattle.recorded_unify.specs.declared.Letter.{Letter}
@@ -30,8 +30,8 @@ arguments_at = 16384
 abbrev pub bindings_at : ℕ
 bindings_at = 20480
 
-abbrev pub left_at : ℕ
-left_at = 20992
+abbrev pub bindings_left_at : ℕ
+bindings_left_at = 20992
 
 unfoldable pub letter_of : ℕ → Letter
 letter_of b =
@@ -74,11 +74,11 @@ no_lengths = lengths 0 0 0 0 0
 abbrev pub progress_of : Lengths → Lengths → Progress
 progress_of total read = record { total = total; read = read }
 
-abbrev pub list_words : ℕ
-list_words = 21504
+abbrev pub unify_words : ℕ
+unify_words = 21504
 
-abbrev pub started : RecordedUnify
-started = record { words = replicate list_words 0; progress = progress_of no_lengths no_lengths }
+abbrev pub unify_started : RecordedUnify
+unify_started = record { words = replicate unify_words 0; progress = progress_of no_lengths no_lengths }
 
 -- all of the list was read
 unfoldable pub complete : Progress → Bool
@@ -113,7 +113,7 @@ begin_line l ns =
     (not_of_form l))
     (not_of_form l)
 
-abbrev pub kept_step : RecordedUnify → Progress → LineKept → RecordedUnify × Verdict
+abbrev pub kept_step : RecordedUnify → Progress → WordsKept → RecordedUnify × Verdict
 kept_step l next k =
     cond k.all (record l { words = k.words; progress = next }, Quiet) (not_of_form (record l { words = k.words }))
 
@@ -143,7 +143,7 @@ bindings_in ws = part bindings_at max_vars ws
 
 -- the next question leaves the bindings as they are, where no line says otherwise
 unfoldable pub renewed : RecordedUnify → RecordedUnify
-renewed l = record l { words = sets l.words left_at (bindings_in l.words) }
+renewed l = record l { words = sets l.words bindings_left_at (bindings_in l.words) }
 
 -- a binding that the next question makes
 unfoldable pub binds_line : RecordedUnify → List ℕ → RecordedUnify × Verdict
@@ -152,7 +152,7 @@ binds_line l ns =
     (cond (complete l.progress)
     (cond (leb l.progress.total.variables (get_or ns 0 0)) (not_of_form l)
     (cond (ltb most_word (get_or ns 1 0)) (not_of_form l)
-    (record l { words = set l.words (left_at + get_or ns 0 0) (get_or ns 1 0) }, Quiet)))
+    (record l { words = set l.words (bindings_left_at + get_or ns 0 0) (get_or ns 1 0) }, Quiet)))
     (not_of_form l))
     (not_of_form l)
 
@@ -166,7 +166,7 @@ unified ws l bs a b =
 unfoldable pub judged_from : ℕ → List ℕ → List ℕ → ℕ → Verdict
 judged_from zero ws bs i = Agrees
 judged_from (suc m) ws bs i =
-    cond (eqb (get_or bs i 0) (get_or ws (left_at + i) 0)) (judged_from m ws bs (i + 1)) (BindsOther i)
+    cond (eqb (get_or bs i 0) (get_or ws (bindings_left_at + i) 0)) (judged_from m ws bs (i + 1)) (BindsOther i)
 
 unfoldable pub judged_of : List ℕ → List ℕ → ℕ → ℕ → Verdict
 judged_of ws bs got recorded = cond (eqb got recorded) (judged_from max_vars ws bs 0) (Differs got)

@@ -1,37 +1,33 @@
--- A digit too many makes it none, another digit is one more, and where no digit follows the number ends. Assumes nothing.
-use Rattle.std.proofs.Common.{◌≡◌, [], drop, sym, ◌∙◌}
-use Rattle.replay.specs.Inner.Numbers.{digits}
+-- A digit too many makes it none, another digit is one more, and at the end of the digits the number ends. Assumes nothing.
+use Rattle.std.proofs.Common.{sym, arith}
 use Rattle.replay.proofs.Numbers as law
 use Rattle.replay.proofs.number_at.Goals as goal
-use Rattle.replay.proofs.number_at.Goals.{then-loop-end-test+else-is_ascii_digit, else-loop-end-test}
+
+pub slice_bounds-digit-items-end : goal.slice_bounds-digit-items-end
+slice_bounds-digit-items-end c = sym (law.all_there c.args.line.now c.args.at _ c.rest-text.ensures _ c.digit_count-count.ensures)
+
+pub loop-digit-init : goal.loop-digit-init
+loop-digit-init c = law.going_start _
 
 pub returns-then-value-gt-MOST_VALUE : goal.returns-then-value-gt-MOST_VALUE
 returns-then-value-gt-MOST_VALUE c =
-    law.going_large _ _ _ _ c.loop-end.invariant c.loop-end-test.true (sym c.is_ascii_digit.ensures.value ∙ c.if-is_ascii_digit.true)
-    c.if-value-gt-MOST_VALUE.true
+    law.read_large c.args.line.now c.args.at _ c.rest-text.ensures _ c.digit_count-count.ensures _ _ c.loop-digit.invariant c.loop-digit-test.true c.if-value-gt-MOST_VALUE.true
 
-pub loop-end-preserved : goal.loop-end-preserved
-loop-end-preserved c =
-    rw c.from.ensures
-    (law.going_more _ _ _ _ c.loop-end.invariant c.loop-end-test.true (sym c.is_ascii_digit.ensures.value ∙ c.if-is_ascii_digit.true)
-    (law.digit_small _ _ c.is_ascii_digit.ensures.cases c.if-is_ascii_digit.true) c.if-value-gt-MOST_VALUE.false)
+pub overflow_sub-digit : goal.overflow_sub-digit
+overflow_sub-digit c =
+    law.least c.args.line.now c.args.at _ c.rest-text.ensures _ c.digit_count-count.ensures _ _ c.loop-digit.invariant c.loop-digit-test.true
 
-pub returns-then-end-at : goal.returns-then-end-at
-returns-then-end-at c =
-    let none : digits (drop c.loop-end.end c.args.line.now) ≡ [] =
-    elim c.loop-end-test.branch [
-      | then-loop-end-test+else-is_ascii_digit w ↦
-          law.digits_other _ _ w.loop-end-test.true (sym w.is_ascii_digit.ensures.value ∙ w.if-is_ascii_digit.false)
-      | else-loop-end-test w ↦ law.digits_end _ _ w.loop-end-test.false
-    ] in
-    law.ends_at_once _ _ _ _ c.loop-end.invariant none c.if-end-at.true
+pub loop-digit-preserved : goal.loop-digit-preserved
+loop-digit-preserved c =
+    law.read_more c.args.line.now c.args.at _ c.rest-text.ensures _ c.digit_count-count.ensures _ _ c.loop-digit.invariant c.loop-digit-test.true c.if-value-gt-MOST_VALUE.false _ c.from.ensures
 
-pub returns-else-end-at : goal.returns-else-end-at
-returns-else-end-at c =
-    let none : digits (drop c.loop-end.end c.args.line.now) ≡ [] =
-    elim c.loop-end-test.branch [
-      | then-loop-end-test+else-is_ascii_digit w ↦
-          law.digits_other _ _ w.loop-end-test.true (sym w.is_ascii_digit.ensures.value ∙ w.if-is_ascii_digit.false)
-      | else-loop-end-test w ↦ law.digits_end _ _ w.loop-end-test.false
-    ] in
-    law.going_ends _ _ _ _ c.loop-end.invariant none c.if-end-at.false
+pub overflow_add-result : goal.overflow_add-result
+overflow_add-result c =
+    let w = law.within c.args.line.now c.args.at _ c.rest-text.ensures _ c.digit_count-count.ensures c.if-count-eq0.false in omega (arith, w)
+
+pub returns-then-count-eq0 : goal.returns-then-count-eq0
+returns-then-count-eq0 c = law.read_none c.args.line.now c.args.at _ c.rest-text.ensures _ c.digit_count-count.ensures c.if-count-eq0.true
+
+pub returns-else-count-eq0 : goal.returns-else-count-eq0
+returns-else-count-eq0 c =
+    law.read_some c.args.line.now c.args.at _ c.rest-text.ensures _ c.digit_count-count.ensures _ _ c.loop-digit.invariant c.loop-digit-test.false c.if-count-eq0.false

@@ -17,17 +17,17 @@ abbrev pub most_count : ℕ
 most_count = 18446744073709551615
 
 -- words, and whether all numbers were words
-pub record LineKept : Type 0 where
+pub record WordsKept : Type 0 where
   pub words : List ℕ
   pub all : Bool
 
-abbrev pub kept : List ℕ → Bool → LineKept
-kept ws b = record { words = ws; all = b }
+abbrev pub words_kept : List ℕ → Bool → WordsKept
+words_kept ws b = record { words = ws; all = b }
 
 -- numbers stored from a word on, up to the first that is no word
-unfoldable pub store_from : List ℕ → ℕ → List ℕ → LineKept
-store_from ws at [] = kept ws true
-store_from ws at (v ∷ vs) = cond (ltb most_word v) (kept ws false) (store_from (set ws at v) (at + 1) vs)
+unfoldable pub store_from : List ℕ → ℕ → List ℕ → WordsKept
+store_from ws at [] = words_kept ws true
+store_from ws at (v ∷ vs) = cond (ltb most_word v) (words_kept ws false) (store_from (set ws at v) (at + 1) vs)
 
 abbrev pub verdict_of : ℕ → ℕ → Verdict
 verdict_of got expected = cond (eqb got expected) Agrees (Differs got)

@@ -53,5 +53,5 @@ unfoldable pub fields_of : List ℕ → Option Fields
 fields_of line = fields_from max_fields line 1 (replicate max_fields 0) 0
 
 -- the numbers of a line as a list
-abbrev pub numbers : Fields → List ℕ
-numbers f = take f.count f.values
+abbrev pub values_read : Fields → List ℕ
+values_read f = take f.count f.values
