@@ -5,4 +5,4 @@ use Rattle.problem_words.proofs.Wholes as whole
 use Rattle.recorded_solve.proofs.copied.Goals as goal
 
 pub returns : goal.returns
-returns g c = whole.copied_out c.args.at g.N c.args.given.now _ _ (omega arith) (length-replicate {A = ℕ} g.N 0) c.copy.ensures
+returns g c = whole.copied_out c.args.at g.row.N c.args.given.now _ _ (omega arith) (length-replicate {A = ℕ} g.row.N 0) c.copy.ensures
