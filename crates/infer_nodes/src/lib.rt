@@ -4,22 +4,20 @@
 ghost use Rattle.std.specs.Prelude.{◌≡◌, ◌+◌, ◌*◌, ◌<◌, ◌≤◌, length, get_or};
 ghost use Rattle.std.proofs.Math.Option.{some};
 ghost use Rattle.resolved_sort.specs.Storage.{function_kind, max_arguments, row_words};
-ghost use Rattle.unification.specs.Inner.Apart.{TakenApart};
 ghost use Rattle.unification.specs.Inner.Term.{head_of, parts_of};
 ghost use Rattle.unification.specs.Term.{Shape, kind_head, same_head};
-ghost use Rattle.unification.specs.Nodes.{node_entries_at, op_of_kind, node_at, node_entry_at, binding_of, binds_of};
+ghost use Rattle.unification.specs.Nodes.{node_entries_at, op_of_kind, node_at, node_entry_at, binding_of};
 ghost use Rattle.unification.specs.Unify.{of_test, follow, occurs as occursIn, deep};
-ghost use Rattle.unification.specs.Checked.{graph_of, Ready, Placed};
+ghost use Rattle.unification.specs.Checked.{Placed};
 ghost use Rattle.unification.specs.Resolve.{with_counts};
 ghost use Rattle.infer_nodes.specs.Inner.Bound.{bound_of, bound_to, BindsPass};
 ghost use Rattle.infer_nodes.specs.Inner.Parts.{NodesReady, var_at, var_by, number_by, SmallCount, RowAt};
 
 use resolved_sort::{
     ComplexSort, Counts, DEF_KIND, ENTRIES_AT, FIRST_CONTAINER, FUNCTION_KIND, ROW_WORDS, Run,
-    SortId,
 };
 use unification::{
-    FIRST_NODE, FREE_WORD, InferSort, InferSortId, Lengths, NODE_ENTRIES_AT, NodeId, Place, SortVar,
+    FREE_WORD, InferSort, InferSortId, Lengths, NODE_ENTRIES_AT, NodeId, Place, SortVar,
 };
 use words::word;
 
@@ -44,6 +42,8 @@ pub fn with_counts(lengths: Lengths, counts: Counts) -> Lengths
 }
 
 // The container constructor of a kind.
+// kept: a row's kind is a number, as the C interface hands it. TryFrom would have to answer for kinds that no checked
+// row has, and node would then match on that answer.
 fn op_of_kind(kind: u16) -> ComplexSort
     ensures { result ≡ op_of_kind kind }
 {
@@ -54,13 +54,6 @@ fn op_of_kind(kind: u16) -> ComplexSort
         9 => ComplexSort::Bag,
         _ => ComplexSort::FBag,
     }
-}
-
-// A place taken apart, for callers that do not say `Place::from`.
-pub fn taken_apart(id: InferSortId) -> Place
-    ensures { TakenApart id.0 result }
-{
-    Place::from(id)
 }
 
 // What a node says.
@@ -295,6 +288,8 @@ impl Bindings<'_, '_> {
         ensures { follow (graph self.now.places) deep (bindings self.now) id.0 ≡ some result.0 }
     {
         let mut end = id;
+        // kept: merc has this loop too: how long a chain of bindings is is not known before, and successors with last
+        // says it no plainer.
         while let Some(next) = self.bound_to(end) {
             end = next;
         }
@@ -325,26 +320,4 @@ impl Bindings<'_, '_> {
             },
         }
     }
-}
-
-// The end of a place, of lists and bindings that passed their checks.
-pub fn shallow_normalize<'a>(
-    sorts: &'a [u16],
-    nodes: &'a [u16],
-    binds: &[u16],
-    lengths: Lengths,
-    id: InferSortId,
-) -> InferSortId
-    requires { Ready sorts.now nodes.now binds.now lengths × Placed lengths id.0 }
-    ensures { follow (graph_of sorts.now nodes.now lengths) deep
-        (binds_of binds.now lengths.variables) id.0
-        ≡ some result.0 }
-{
-    let places = Places {
-        sorts,
-        nodes,
-        lengths,
-    };
-    let bindings = Bindings { places, binds };
-    bindings.shallow_normalize(id)
 }

@@ -10,16 +10,13 @@ ghost use Rattle.resolved_sort.specs.Storage.{max_sorts, max_arguments, kind_fla
 ghost use Rattle.resolved_sort.specs.Rows.{Checked};
 ghost use Rattle.unification.specs.Inner.Term.{parts_of};
 ghost use Rattle.unification.specs.Nodes.{max_places, node_entries_at, binds_of, node_at};
-ghost use Rattle.unification.specs.Checked.{graph_of, Ready, Placed};
+ghost use Rattle.unification.specs.Checked.{graph_of, Placed};
 ghost use Rattle.unification.specs.Related.{related_container};
-ghost use Rattle.unification.specs.Making.{◌and-then◌, push_node, related_over, push_functions, related_places};
+ghost use Rattle.unification.specs.Making.{push_node, related_over, push_functions, related_places};
 ghost use Rattle.unification.specs.Making.{strict_related, made};
-ghost use Rattle.unification.specs.Inner.Making.{lent};
-ghost use Rattle.infer_nodes.specs.Inner.Parts.{NodesReady};
 ghost use Rattle.related_sorts.specs.Listed.{places};
 ghost use Rattle.related_sorts.specs.Inner.Outcome.{found_op, row, IsFunction, FunctionAt};
-ghost use Rattle.related_sorts.specs.Inner.Outcome.{IsRelated, Relates};
-ghost use Rattle.related_sorts.specs.Inner.Ranges.{related_head, over_function, outwards, Stands, AllStand};
+ghost use Rattle.related_sorts.specs.Inner.Ranges.{related_head, over_function, outwards, AllStand};
 ghost use Rattle.related_sorts.specs.Inner.Ranges.{FinalRange, SixThere};
 
 use infer_nodes::{Bindings, Places, counts_of, node, with_counts};
@@ -27,7 +24,7 @@ use resolved_sort::{ARGUMENT_WORDS, ComplexSort, FUNCTION_KIND, ResolvedSort, So
 use sort_interner::{SortInterner, get, put_row, start_of};
 use unification::{
     FIRST_NODE, Full, InferSort, InferSortId, Lengths, MAX_NODE_ENTRIES, MAX_PLACES,
-    NODE_ENTRIES_AT, NODE_NUMBERS, NodeId, Place, Related, Three,
+    NODE_ENTRIES_AT, NODE_NUMBERS, NodeId, Place,
 };
 use words::put;
 
@@ -418,68 +415,4 @@ impl Arena<'_> {
     {
         self.strict_related_sorts(binds, id, false)
     }
-}
-
-// What was listed, with the lengths then.
-fn related(listed: Result<Option<Listed>, Full>, lengths: Lengths) -> Related
-    ensures { IsRelated listed lengths result }
-{
-    match listed {
-        Ok(Some(places)) => {
-            let three = Three {
-                first: places.ids[0],
-                second: places.ids[1],
-                third: places.ids[2],
-                count: places.count as u16,
-            };
-            Related::These(three, lengths)
-        }
-        Ok(None) => Related::NoList(lengths),
-        Err(Full::Sorts) => Related::Full(15, lengths),
-        Err(Full::Nodes) => Related::Full(16, lengths),
-    }
-}
-
-// The sorts strictly wider than that at a place, nearest first.
-pub fn strict_super_sorts(
-    sorts: &mut [u16],
-    nodes: &mut [u16],
-    binds: &[u16],
-    lengths: Lengths,
-    id: InferSortId,
-) -> Related
-    requires { Ready sorts.old nodes.old binds.now lengths × Placed lengths id.0 × SixThere lengths }
-    ensures { Relates sorts.new nodes.new result
-        (strict_related true (binds_of binds.now lengths.variables) id.0
-        (lent sorts.old nodes.old lengths)) }
-{
-    let mut arena = Arena {
-        sorts,
-        nodes,
-        lengths,
-    };
-    let listed = arena.strict_super_sorts(binds, id);
-    related(listed, arena.lengths)
-}
-
-// The sorts strictly narrower, nearest first.
-pub fn strict_sub_sorts(
-    sorts: &mut [u16],
-    nodes: &mut [u16],
-    binds: &[u16],
-    lengths: Lengths,
-    id: InferSortId,
-) -> Related
-    requires { Ready sorts.old nodes.old binds.now lengths × Placed lengths id.0 × SixThere lengths }
-    ensures { Relates sorts.new nodes.new result
-        (strict_related false (binds_of binds.now lengths.variables) id.0
-        (lent sorts.old nodes.old lengths)) }
-{
-    let mut arena = Arena {
-        sorts,
-        nodes,
-        lengths,
-    };
-    let listed = arena.strict_sub_sorts(binds, id);
-    related(listed, arena.lengths)
 }

@@ -2,20 +2,18 @@
 // here, with what stands for a free variable. New sorts are appended; where the answer is none, what was made stays.
 #![tactic(auto)]
 
-ghost use Rattle.std.specs.Prelude.{◌≡◌, [], ◌∷◌, ◌++◌, ◌<◌, Some, None, List, ℕ};
-ghost use Rattle.resolved_sort.specs.Rows.{stored_at, left_at, Checked};
+ghost use Rattle.std.specs.Prelude.{◌≡◌, [], ◌∷◌, ◌++◌, ◌<◌, Some, None};
+ghost use Rattle.resolved_sort.specs.Rows.{left_at};
 ghost use Rattle.unification.specs.Term.{function_head, app};
 ghost use Rattle.unification.specs.Nodes.{binds_of, node_entries_of};
 ghost use Rattle.unification.specs.Unify.{follow, deep};
-ghost use Rattle.unification.specs.Checked.{graph_of, Ready, Placed};
+ghost use Rattle.unification.specs.Checked.{graph_of};
 ghost use Rattle.unification.specs.Solutions.{terms_at};
-ghost use Rattle.unification.specs.Inner.Resolve.{value_in};
-ghost use Rattle.unification.specs.Resolve.{DefaultBelow, term_resolved};
 ghost use Rattle.infer_nodes.specs.Inner.Bound.{RunPlaced};
 ghost use Rattle.std.proofs.Math.Option.{some};
 
-use infer_nodes::{Bindings, Places, argument, counts_of, node, with_counts};
-use resolved_sort::{ARGUMENT_WORDS, Counts, Joined, NoRoom, Run, SortId};
+use infer_nodes::{Bindings, Places, argument, node, with_counts};
+use resolved_sort::{ARGUMENT_WORDS, NoRoom, Run, SortId};
 use sort_interner::SortInterner;
 use unification::{InferSort, InferSortId, Lengths, Place};
 
@@ -117,79 +115,4 @@ impl Resolver<'_> {
         };
         Ok(Some(interner.function(&ids[..domain.count as usize], range)?))
     }
-}
-
-// What was resolved, with the counts after it.
-fn joined(left: Result<Option<SortId>, NoRoom>, counts: Counts) -> Joined
-    ensures { (ws : List ℕ) → stored_at ws result ≡ left_at ws counts left }
-{
-    match left {
-        Ok(Some(id)) => Joined::At(id, counts),
-        Ok(None) => Joined::Nothing(counts),
-        Err(_) => Joined::Full,
-    }
-}
-
-// The sort of a place, or nothing where a free variable remains.
-pub fn resolve(
-    sorts: &mut [u16],
-    nodes: &[u16],
-    binds: &[u16],
-    lengths: Lengths,
-    id: InferSortId,
-) -> Joined
-    requires { Ready sorts.old nodes.now binds.now lengths × Placed lengths id.0 }
-    ensures { stored_at sorts.new result
-        ≡ term_resolved sorts.old lengths None
-        (value_in sorts.old nodes.now binds.now lengths id.0) }
-{
-    resolve_with(sorts, nodes, binds, lengths, None, id)
-}
-
-// The sort of a place, where the default stands for a free variable.
-pub fn resolve_or_default(
-    sorts: &mut [u16],
-    nodes: &[u16],
-    binds: &[u16],
-    lengths: Lengths,
-    id: InferSortId,
-    default: SortId,
-) -> Joined
-    requires { Ready sorts.old nodes.now binds.now lengths
-        × Placed lengths id.0
-        × (default.0 < lengths.sorts) }
-    ensures { stored_at sorts.new result
-        ≡ term_resolved sorts.old lengths (Some default)
-        (value_in sorts.old nodes.now binds.now lengths id.0) }
-{
-    resolve_with(sorts, nodes, binds, lengths, Some(default), id)
-}
-
-fn resolve_with<'a>(
-    sorts: &mut [u16],
-    nodes: &'a [u16],
-    binds: &'a [u16],
-    lengths: Lengths,
-    default: Option<SortId>,
-    id: InferSortId,
-) -> Joined
-    requires { Ready sorts.old nodes.now binds.now lengths
-        × DefaultBelow lengths.sorts default
-        × Placed lengths id.0 }
-    ensures { stored_at sorts.new result
-        ≡ term_resolved sorts.old lengths default
-        (value_in sorts.old nodes.now binds.now lengths id.0) }
-{
-    let resolver = Resolver {
-        nodes,
-        binds,
-        lengths,
-        default,
-    };
-    let mut interner = SortInterner {
-        words: sorts,
-        counts: counts_of(lengths),
-    };
-    let left = resolver.resolve(&mut interner, id);
-    joined(left, interner.counts)
 }

@@ -2,8 +2,6 @@
 use Rattle.std.specs.Prelude.{◌≡◌, Bool, true, false, List, [], ◌∷◌, ℕ, zero, suc, ◌+◌, ◌-◌, ◌≤◌, get_or, set, take, drop}
 use Rattle.std.proofs.Math.Option.{Option, none, some}
 use Rattle.unification.specs.declared.Lengths.{Lengths}
-use Rattle.unification.specs.declared.Tried.{Tried}
-use Rattle.unification.specs.declared.Tried.TheVariants.{Yes, No}
 use Rattle.unification.specs.Nodes.{free_word, Binds, binds_of}
 use Rattle.unification.specs.Unify.{Unifies, yes_with, no_way}
 use Rattle.unification.specs.Checked.{Ready}
@@ -39,18 +37,3 @@ pub record UnifyLeaves (ws ns : List ℕ) (k : Lengths) (U : Unifies) (bs ts : L
   pub spent : d + frees (binds_of left-bs k.variables) ≡ c + frees (binds_of bs k.variables)
   pub past : drop k.variables left-bs ≡ drop k.variables bs
   pub ready : Ready ws ns left-bs k
-
--- the same of an answer that holds how many variables are on the trail
-abbrev pub count_of : Tried → ℕ
-count_of (Yes c) = c
-count_of (No c) = c
-
-abbrev pub is_yes : Tried → Bool
-is_yes (Yes c) = true
-is_yes (No c) = false
-
-abbrev pub answer_of : Tried → Binds → Unifies
-answer_of r B = answer_by (is_yes r) B
-
-abbrev pub TryLeaves : List ℕ → List ℕ → Lengths → Unifies → List ℕ → List ℕ → ℕ → List ℕ → List ℕ → Tried → Type 0
-TryLeaves ws ns k U bs ts c left-bs left-ts r = UnifyLeaves ws ns k U bs ts c left-bs left-ts (count_of r) (is_yes r)

@@ -95,32 +95,6 @@ impl From<Full> for Refusal {
     }
 }
 
-// How a try of unify ended, with how many variables are on the trail then.
-#[derive(Clone, Copy, Drop)]
-pub enum Tried {
-    Yes(u16),
-    No(u16),
-}
-
-// So many of three places: at most three count.
-// kept: an array of three beside the same count is no plainer: `places.first` says more than `places.ids[0]`.
-#[derive(Clone, Copy, Drop)]
-pub struct Three {
-    pub first: InferSortId,
-    pub second: InferSortId,
-    pub third: InferSortId,
-    pub count: u16,
-}
-
-// How listing the strictly wider or narrower sorts of a place ended, with the lengths then: their places, nearest
-// first; no list; or no room, with its code.
-#[derive(Clone, Copy, Drop)]
-pub enum Related {
-    These(Three, Lengths),
-    NoList(Lengths),
-    Full(u16, Lengths),
-}
-
 // Ceilings of document 01: nodes, their argument entries, variables. Node numbers are below NODE_NUMBERS.
 pub const MAX_NODES: usize = 2048;
 

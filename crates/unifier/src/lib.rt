@@ -4,15 +4,14 @@
 
 ghost use Rattle.std.specs.Prelude.{◌≡◌, ◌+◌, ◌-◌, ◌<◌, ◌≤◌, length, set, eqb};
 ghost use Rattle.words.specs.Inner.Bits.{most_word};
-ghost use Rattle.unification.specs.Nodes.{binds_of};
 ghost use Rattle.unification.specs.Unify.{occurs as occursIn, bind_unless, unify_variables, unify_shapes};
 ghost use Rattle.unification.specs.Unify.{unify as unifyOf, deep};
-ghost use Rattle.unification.specs.Checked.{graph_of, Ready, Placed};
-ghost use Rattle.unification.specs.Trail.{undo as undoOf, TryLeaves};
-ghost use Rattle.unifier.specs.Inner.Trying.{Trying, Solid, VariableAt};
+ghost use Rattle.unification.specs.Checked.{Ready, Placed};
+ghost use Rattle.unification.specs.Trail.{undo as undoOf};
+ghost use Rattle.unifier.specs.Inner.Trying.{Solid, VariableAt};
 
 use infer_nodes::{Bindings, Places};
-use unification::{FREE_WORD, InferSortId, Lengths, SortVar, Tried};
+use unification::{FREE_WORD, InferSortId, SortVar};
 use words::put;
 
 // Frees the last variables on the trail, down to `base`.
@@ -177,40 +176,4 @@ impl Unifier<'_, '_> {
         let trail = &mut *self.trail;
         undo(binds, trail, base, count);
     }
-}
-
-// Unify, of lists and bindings that passed their checks, with so many variables on the trail.
-pub fn unify<'p, 'b>(
-    sorts: &'p [u16],
-    nodes: &'p [u16],
-    binds: &'b mut [u16],
-    trail: &'b mut [u16],
-    lengths: Lengths,
-    count: u16,
-    lhs: InferSortId,
-    rhs: InferSortId,
-) -> Tried
-    requires { Trying sorts.now nodes.now binds.old trail.old lengths count
-        × Placed lengths lhs.0
-        × Placed lengths rhs.0 }
-    ensures { TryLeaves sorts.now nodes.now lengths
-        (unifyOf (graph_of sorts.now nodes.now lengths)
-        (binds_of binds.old lengths.variables) lhs.0 rhs.0)
-        binds.old trail.old count binds.new trail.new result }
-{
-    let places = Places {
-        sorts,
-        nodes,
-        lengths,
-    };
-    let mut unifier = Unifier {
-        places,
-        binds,
-        trail,
-        count,
-    };
-    if unifier.unify(lhs, rhs) {
-        return Tried::Yes(unifier.count);
-    }
-    Tried::No(unifier.count)
 }

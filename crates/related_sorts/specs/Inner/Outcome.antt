@@ -1,19 +1,15 @@
 -- What the code of this crate answers and leaves, as the definition has it.
-use Rattle.std.specs.Prelude.{Option as Found, Some, None, Result, Ok, Err, ◌≡◌, List, [], ◌∷◌, ℕ, suc, ◌≤◌, length, take}
+use Rattle.std.specs.Prelude.{Option as Found, Some, None, Result, Ok, Err, ◌≡◌, List, ℕ, suc, ◌≤◌, length}
 use Rattle.std.proofs.Math.Option.{Option, none, some}
 use Rattle.resolved_sort.specs.declared.ComplexSort.{ComplexSort}
 use Rattle.resolved_sort.specs.Storage.{max_arguments, Row}
 use Rattle.unification.specs.declared.Lengths.{Lengths}
-use Rattle.unification.specs.declared.Full.{Full as NoRoomIn}
-use Rattle.unification.specs.declared.Three.{Three}
-use Rattle.unification.specs.declared.Related.{Related}
-use Rattle.unification.specs.declared.Related.TheVariants.{These, NoList, Full}
+use Rattle.unification.specs.declared.Full.{Full}
 use Rattle.unification.specs.declared.Full.TheVariants.{Sorts, Nodes}
 use Rattle.unification.specs.Term.{function_head, over}
 use Rattle.unification.specs.Inner.Term.{parts_of}
 use Rattle.unification.specs.Checked.{NodesChecked, graph_of, Placed}
 use Rattle.unification.specs.Making.{Lent, Makes, made, no_list, no_room}
-use Rattle.unification.specs.Inner.Making.{lent}
 use Rattle.related_sorts.specs.declared.listing.Listed.{Listed}
 use Rattle.related_sorts.specs.Listed.{places}
 
@@ -26,17 +22,17 @@ abbrev pub row : ℕ → ℕ → List ℕ → Row
 row kind part args = record { kind = kind; part = part; args = args }
 
 -- which list has no room, by its code
-abbrev pub no_room_in : NoRoomIn → ℕ
+abbrev pub no_room_in : Full → ℕ
 no_room_in Sorts = 15
 no_room_in Nodes = 16
 
 -- what was listed, with the lists as they then are
-abbrev pub listed : Result (Found Listed) NoRoomIn → Lent → Makes (List ℕ)
+abbrev pub listed : Result (Found Listed) Full → Lent → Makes (List ℕ)
 listed (Ok (Some l)) W = made (places l) W
 listed (Ok None) W = no_list W
 listed (Err e) W = no_room (no_room_in e) W
 
-abbrev pub some_listed : Result Listed NoRoomIn → Lent → Makes (List ℕ)
+abbrev pub some_listed : Result Listed Full → Lent → Makes (List ℕ)
 some_listed (Ok l) W = made (places l) W
 some_listed (Err e) W = no_room (no_room_in e) W
 
@@ -51,27 +47,3 @@ pub record IsFunction (ws ns : List ℕ) (k : Lengths) (p n : ℕ) : Type 0 wher
 pub record FunctionAt (ws ns : List ℕ) (k : Lengths) (p : ℕ) : Type 0 where
   pub arguments : ℕ
   pub function : IsFunction ws ns k p arguments
-
--- The same of an answer that holds its places one by one, and the lengths.
--- the places that count
-abbrev pub three_places : Three → List ℕ
-three_places t = take t.count (t.first.0 ∷ t.second.0 ∷ t.third.0 ∷ [])
-
-abbrev pub related_made : List ℕ → List ℕ → Related → Makes (List ℕ)
-related_made ws ns (These t k) = made (three_places t) (lent ws ns k)
-related_made ws ns (NoList k) = no_list (lent ws ns k)
-related_made ws ns (Full c k) = no_room c (lent ws ns k)
-
--- an answer of at most three places
-abbrev pub Ranges : Related → Type 0
-Ranges (These t k) = t.count ≤ 3
-Ranges (NoList k) = Unit {0}
-Ranges (Full c k) = Unit {0}
-
--- The answer and what was left are those of the definition, and there are at most three places.
-pub record Relates (ws ns : List ℕ) (r : Related) (O : Makes (List ℕ)) : Type 0 where
-  pub says : related_made ws ns r ≡ O
-  pub few : Ranges r
-
-abbrev pub IsRelated : Result (Found Listed) NoRoomIn → Lengths → Related → Type 0
-IsRelated l k r = (ws ns : List ℕ) → Relates ws ns r (listed l (lent ws ns k))

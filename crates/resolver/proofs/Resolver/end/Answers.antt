@@ -1,5 +1,5 @@
 -- What is ready passes the checks. Assumes nothing.
-use Rattle.std.proofs.Common.{rules, ◌≡◌}
+use Rattle.std.proofs.Common.{rules}
 use Rattle.infer_nodes.proofs.Passing.{pass_of}
 use Rattle.resolver.proofs.Laws as law
 use Rattle.resolver.proofs.Resolver.end.Goals as goal
