@@ -29,7 +29,7 @@ use Rattle.line_input.specs.Found.{Nothing, Line, End, Failed}
 use Rattle.line_input.specs.Taking.{take_line}
 use Rattle.line_input.specs.Answers.{unread, most_reads}
 use Rattle.line_input.specs.Inner.Answers.{Takes, end_of, failed, at_its_end, bytes, AfterRead, GivenBy, ReadSomeFrom}
-use Rattle.line_input.specs.Lines.{SameMemory, LineRead, Answers, seen}
+use Rattle.line_input.specs.Lines.{SameMemory, LineRead, AnswersFound, seen}
 use Rattle.line_input.specs.Inner.Lines.{FilledBy, found_where}
 use Rattle.line_input.proofs.Ways.{Taking, byte_taken, line_ends_lem, stays_going, ReadOn, starts, read_once, says_before, line_is_next, failed_is_something, end_is_something, line_is_something}
 
@@ -114,7 +114,7 @@ same_from_start before after m = record { buffer = m.buffer; line = m.line; buff
 pub line_at_once : (before first : Lines) (found : Bool) → found ≡ true → SameMemory (from_start before) first → first.buffer.now ≡ before.buffer.now
     → Takes before.buffer.now before.line.bytes.now before.at before.end 0 first.line.bytes.now (seen first (found_where found))
     → (known : Option (List ℕ)) → LineRead known known before first (Ok (Some first.line.at))
-unfolding Answers
+unfolding AnswersFound
 line_at_once before first found e m' b t' known =
     let m = same_from_start before first m' in
     let t = subst (λ f. Takes before.buffer.now before.line.bytes.now before.at before.end 0 first.line.bytes.now (seen first (found_where f))) e t' in
@@ -171,7 +171,7 @@ module _ (before first now : Lines) (reads : ℕ) (known₀ known : Option (List
 
   -- the reads are used up
   pub reads_used_up : most_reads ≤ reads → (e : Error) → error_kind e ≡ TimedOut → LineRead known₀ known before now (Err e)
-  unfolding Answers
+  unfolding AnswersFound
   reads_used_up used e a =
       record {
         found = Nothing;
@@ -192,7 +192,7 @@ module _ (before first now : Lines) (reads : ℕ) (known₀ known : Option (List
         (says_before before.buffer.now before.line.bytes.now (seen before Nothing) first.line.bytes.now (seen first Nothing) g.taken g.first_same.line_long)
         (omega (arith, more)) after.line.bytes.now m.line_long (seen after f) s
 
-    answered : (f ≡ Nothing → ⊥) → (r : Result (Option ℕ) Error) → Answers f after.line.at r → LineRead known₀ known' before after r
+    answered : (f ≡ Nothing → ⊥) → (r : Result (Option ℕ) Error) → AnswersFound f after.line.at r → LineRead known₀ known' before after r
     answered n r a =
         record {
           found = f;
@@ -213,7 +213,7 @@ module _ (before first now : Lines) (reads : ℕ) (known₀ known : Option (List
 
     -- a read that failed
     pub read_failed : (e : Error) → n ≡ Err e → (r : Result (Option ℕ) Error) → IsErr r → LineRead known₀ known' before filled r
-    unfolding AfterRead GivenBy Answers
+    unfolding AfterRead GivenBy AnswersFound
     read_failed e is r a =
         answered more filled Failed known' m
         (record {
@@ -225,7 +225,7 @@ module _ (before first now : Lines) (reads : ℕ) (known₀ known : Option (List
     -- the end of the input
     ends_by : (e : ℕ) → n ≡ Ok e → e ≡ 0 → (count : ℕ) → now.line.at ≡ count → (o : Option ℕ) → o ≡ then_some (ltb 0 count) count
         → LineRead known₀ known' before filled (Ok o)
-    unfolding AfterRead GivenBy Answers end_of
+    unfolding AfterRead GivenBy AnswersFound end_of
     ends_by e is z zero c o a =
         answered more filled End known' m
         (record {
@@ -282,7 +282,7 @@ module _ (before first now : Lines) (reads : ℕ) (known₀ known : Option (List
     module _ (e : ℕ) (is : n ≡ Ok e) (after : Lines) (found : Bool) (s : SameMemory filled after) (b : after.buffer.now ≡ filled.buffer.now)
         (t : Takes filled.buffer.now filled.line.bytes.now filled.at filled.end filled.line.at after.line.bytes.now (seen after (found_where found))) where
       pub line_came : found ≡ true → LineRead known₀ known' before after (Ok (Some after.line.at))
-      unfolding Answers
+      unfolding AnswersFound
       line_came x =
           let t' = subst (λ f. Takes filled.buffer.now filled.line.bytes.now filled.at filled.end filled.line.at after.line.bytes.now (seen after (found_where f))) x t in
           answered more after Line known' (same_then now filled after m s) (bytes_taken e is after Line s b t') line_is_something (Ok (Some after.line.at)) refl

@@ -15,7 +15,7 @@ use Rattle.line_input.specs.Found.{Input}
 use Rattle.line_input.specs.Found.{LineFound}
 use Rattle.line_input.specs.Found.{Nothing, Line, End, Failed}
 use Rattle.line_input.specs.declared.Lines.{Lines}
-use Rattle.line_input.specs.Lines.{LineRead, Answers, seen}
+use Rattle.line_input.specs.Lines.{LineRead, AnswersFound, seen}
 use Rattle.line_input.specs.Taking.{Came, line_ends, going, take_line, Reached, reached, goes_on, some_line, no_line, following_by, following_of, next_line, held_lines}
 use Rattle.line_input.specs.Answers.{unread, SaysLine, EndsInput, NextLineFrom}
 use Rattle.line_input.proofs.Taking.{later_parts}
@@ -127,15 +127,15 @@ module _ (known known' : Option (List ℕ)) (buffer line : List ℕ) (input : In
       ∙ append-nil taken))
 
 -- The same of a call of `next_line` of `Lines`, by its answer.
-pub found_line : (f : LineFound) (n m : ℕ) (r : Result (Option ℕ) Error) → Answers f n r → r ≡ Ok (Some m) → (f ≡ Line) × (m ≡ n)
-unfolding Answers
+pub found_line : (f : LineFound) (n m : ℕ) (r : Result (Option ℕ) Error) → AnswersFound f n r → r ≡ Ok (Some m) → (f ≡ Line) × (m ≡ n)
+unfolding AnswersFound
 found_line Line n m r a e = (refl, let z : ◌≡◌ {A = Result (Option ℕ) Error} (Ok (Some m)) (Ok (Some n)) = sym e ∙ a in cc z)
 found_line End n m r a e = absurd (let z : ◌≡◌ {A = Result (Option ℕ) Error} (Ok (Some m)) (Ok None) = sym e ∙ a in cc z)
 found_line Failed n m r a e = absurd (let z = subst IsErr e a in cc z)
 found_line Nothing n m r a e = absurd (subst (λ x. IsErrAnd x (λ k. error_kind k ≡ TimedOut)) e a)
 
-pub found_end : (f : LineFound) (n : ℕ) (r : Result (Option ℕ) Error) → Answers f n r → r ≡ Ok None → f ≡ End
-unfolding Answers
+pub found_end : (f : LineFound) (n : ℕ) (r : Result (Option ℕ) Error) → AnswersFound f n r → r ≡ Ok None → f ≡ End
+unfolding AnswersFound
 found_end Line n r a e = absurd (let z : ◌≡◌ {A = Result (Option ℕ) Error} (Ok None) (Ok (Some n)) = sym e ∙ a in cc z)
 found_end End n r a e = refl
 found_end Failed n r a e = absurd (let z = subst IsErr e a in cc z)

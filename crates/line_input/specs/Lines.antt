@@ -21,15 +21,15 @@ pub record SameMemory (before after : Lines) : Type 0 where
 
 -- the answer as a reader's result: so many bytes of a line are held; the end; or an error, of this kind where the reads
 -- are used up
-unfoldable pub Answers : LineFound → ℕ → Result (Option ℕ) Error → Type 0
-Answers Line n r = r ≡ Ok (Some n)
-Answers End n r = r ≡ Ok None
-Answers Failed n r = IsErr r
-Answers Nothing n r = IsErrAnd r (λ e. error_kind e ≡ TimedOut)
+unfoldable pub AnswersFound : LineFound → ℕ → Result (Option ℕ) Error → Type 0
+AnswersFound Line n r = r ≡ Ok (Some n)
+AnswersFound End n r = r ≡ Ok None
+AnswersFound Failed n r = IsErr r
+AnswersFound Nothing n r = IsErrAnd r (λ e. error_kind e ≡ TimedOut)
 
 -- What a call of `next_line` answers and leaves; after an error too.
 pub record LineRead (known known-left : Option (List ℕ)) (before after : Lines) (r : Result (Option ℕ) Error) : Type 0 where
   pub found : LineFound
-  pub answer : Answers found after.line.at r
+  pub answer : AnswersFound found after.line.at r
   pub next : NextLineFrom known known-left before.buffer.now before.line.bytes.now (seen before Nothing)
       after.buffer.now after.line.bytes.now (seen after found)

@@ -50,6 +50,7 @@ fn write<W: Write>(to: &mut W, bytes: &[u8]) -> Result<(), Failed>
 }
 
 // Bytes that were read: the output for them is written each time that the buffer is full. What is held after them.
+// kept: a loop by hand, since how many bytes a part has is known only once it is fed.
 fn take_bytes<W: Write>(
     to: &mut W,
     memory: &mut [u8],

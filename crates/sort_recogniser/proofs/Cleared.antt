@@ -11,7 +11,7 @@ use Rattle.std.specs.Result.{result_unwrap_or}
 use Rattle.sort_text.specs.Parse.{Parsed, parsed, stuck}
 use Rattle.sort_recogniser.specs.declared.Stuck.{Stuck}
 use Rattle.sort_recogniser.specs.Inner.Says.{Recognised, done_at, stuck_at, Says}
-use Rattle.sort_recogniser.specs.Inner.Cleared.{steps_written, line_ended, SaysLine, LineRecognised}
+use Rattle.sort_recogniser.specs.Inner.Cleared.{steps_written, line_ended, RecognisedAs, LineRecognised}
 
 abbrev steps_at : Recognised → ℕ
 steps_at (done_at p n) = n
@@ -40,7 +40,7 @@ unfolding steps_written
 counted line (Ok n) = (refl, refl)
 counted line (Err s) = (refl, refl)
 
-module _ (line out : List ℕ) (r : Result ℕ Stuck) (says : SaysLine line out r) (n : ℕ) (is : n ≡ result_unwrap_or r 0) (fits : length line ≤ length out) where
+module _ (line out : List ℕ) (r : Result ℕ Stuck) (says : RecognisedAs line out r) (n : ℕ) (is : n ≡ result_unwrap_or r 0) (fits : length line ≤ length out) where
   pub within : n ≤ length out
   within = omega (arith, few_steps _ _ _ _ _ _ _ says, is ∙ (counted line r).0)
 

@@ -9,7 +9,7 @@ ghost use Rattle.sort_text.specs.Tokens.{is_letter, skip, next};
 ghost use Rattle.sort_text.specs.declared.Unread.TheVariants.{NotASort};
 ghost use Rattle.sort_lexer.specs.Inner.Lexeme.{lexeme_of};
 ghost use Rattle.sort_recogniser.specs.Inner.Says.{Met, HasRoom, Read, ReadRest, same_but_place};
-ghost use Rattle.sort_recogniser.specs.Inner.Cleared.{SaysLine, LineRecognised};
+ghost use Rattle.sort_recogniser.specs.Inner.Cleared.{RecognisedAs, LineRecognised};
 ghost use Rattle.sort_text.specs.Parse as Parse;
 
 use resolved_sort::{ComplexSort, Sort};
@@ -205,7 +205,7 @@ impl<'a> Recogniser<'a> {
 fn steps_of(line: &[u8], steps: &mut [u8]) -> Result<usize, Stuck>
     requires { length line.now ≤ length steps.old }
     ensures same_room { length steps.new ≡ length steps.old }
-    ensures says { SaysLine line.now steps.new result }
+    ensures says { RecognisedAs line.now steps.new result }
 {
     let mut recogniser = Recogniser {
         line,

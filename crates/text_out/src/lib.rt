@@ -4,7 +4,6 @@
 
 ghost use Rattle.std.specs.Prelude.{[], ◌∷◌, ◌+◌, ◌≤◌, length, ◌≡◌};
 ghost use Rattle.text_out.specs.Decimal.{digit, decimal};
-ghost use Rattle.text_out.specs.Put.{Put};
 ghost use Rattle.text_out.specs.Outs.{then_put};
 
 // A lent buffer, and the place where the next byte goes.
@@ -69,14 +68,4 @@ impl<'a> Out<'a> {
         self.put_digit(n, 10);
         self.put_byte(b'0' + (n % 10) as u8);
     }
-}
-
-// Bytes put into the buffer from a place on; the place behind them. No other byte changes.
-pub fn put_bytes(bytes: &[u8], out: &mut [u8], at: usize) -> usize
-    requires { at + length bytes.now ≤ length out.old }
-    ensures { Put out.old at bytes.now out.new result }
-{
-    let mut to = Out { bytes: out, at };
-    to.put_bytes(bytes);
-    to.at
 }

@@ -1,4 +1,4 @@
--- What only contracts of inner functions cite, beside `specs/Answers.antt`.
+-- What the laws speak of, and the contracts of inner functions, beside `specs/Answers.antt`.
 use Rattle.std.specs.Prelude.{◌≡◌, List, [], ℕ, zero, suc, ◌+◌, ◌-◌, ◌<◌, ◌≤◌, length, take, drop, Option}
 use Rattle.std.specs.Io.KnownBytes.{Keeps, Consumes, IsAtEnd}
 use Rattle.std.proofs.Math.Seq.{slice}

@@ -13,10 +13,10 @@ abbrev pub line_ended : List ℕ → Result ℕ Stuck → Recognised
 line_ended line (Ok n) = done_at (length line) n
 line_ended line (Err s) = stuck_at s.0
 
-abbrev pub SaysLine : List ℕ → List ℕ → Result ℕ Stuck → Type 0
-SaysLine line out r = Says line 0 (length line) [] (Parse.line line) out (line_ended line r)
+abbrev pub RecognisedAs : List ℕ → List ℕ → Result ℕ Stuck → Type 0
+RecognisedAs line out r = Says line 0 (length line) [] (Parse.line line) out (line_ended line r)
 
 -- in a buffer of `room` bytes
 pub record LineRecognised (line : List ℕ) (room : ℕ) (out : List ℕ) (r : Result ℕ Stuck) : Type 0 where
-  pub says : SaysLine line out r
+  pub says : RecognisedAs line out r
   pub zeros_behind : drop (steps_written r) out ≡ replicate (room - steps_written r) 0
