@@ -16,7 +16,7 @@ use Rattle.list_tokens.specs.declared.Token.{Token}
 use Rattle.list_forms.specs.declared.Item.{Item}
 use Rattle.list_forms.specs.declared.Item.TheVariants.{Number, Sort, Node, Var, Expr, FixedSort, Place, Container, Literal, AnyWord}
 use Rattle.list_forms.specs.declared.Target.{Target}
-use Rattle.list_forms.specs.declared.ConstraintKind.{ConstraintKind}
+use Rattle.problem_words.specs.declared.ConstraintKind.{ConstraintKind}
 use Rattle.list_forms.specs.declared.Plan.{Plan}
 use Rattle.list_forms.specs.Items.{table_named, slice_named, token_at, keyword_word, word_at, fits_form, list_fits, function_fits}
 use Rattle.list_forms.specs.Plans.{nothing, rows_plan, row_plan, with_free, with_run, put_at, with_put, told_plan, saturated, grown}

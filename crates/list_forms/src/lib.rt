@@ -26,6 +26,7 @@ use list_memory::{
     LIST_CONSTRAINTS_AT, LIST_WORDS, LastConstraint, MAX_NAMES, ROWS_AT, Slice, Table,
 };
 use list_tokens::{Keyword, Token};
+use problem_words::ConstraintKind;
 use resolved_sort::{ComplexSort, DEF_KIND, FUNCTION_KIND, LAST_KIND, SORT_NUMBERS};
 use unification::{FIRST_NODE, FREE_WORD, InferSortId, MAX_VARS, SortVar, VARIABLE_KIND};
 use words::word;
@@ -95,16 +96,6 @@ pub enum Target {
     Variable = 1,
     Op = 2,
     Builtin = 3,
-}
-
-// The kinds of constraints in their rows.
-#[derive(Clone, Copy, Debug, PartialEq, Eq)]
-pub enum ConstraintKind {
-    Sub = 0,
-    Lit = 1,
-    Disjunction = 2,
-    Comprehension = 3,
-    Join = 4,
 }
 
 fn is_fixed_sort(keyword: Keyword) -> bool
@@ -335,6 +326,13 @@ fn constraint_row(row: [u16; 5], last: LastConstraint) -> Plan
     }
 }
 
+// What was expected, where it does not hold.
+fn expect(holds: bool, form: Form) -> Result<(), Form>
+    ensures { MatchResult result (λ _. holds ≡ true) (λ f. (holds ≡ false) × (f ≡ form)) }
+{
+    if holds { Ok(()) } else { Err(form) }
+}
+
 impl<'a> Line<'a> {
     fn token_at(&self, i: usize) -> Token
         ensures { result ≡ token_at self.now.words.now i }
@@ -375,28 +373,6 @@ impl<'a> Line<'a> {
                     && all_of(item, parts)
             }
             _ => false,
-        }
-    }
-
-    // A line of a form, or what was expected instead.
-    fn expect(&self, items: &[Item], form: Form) -> Result<(), Form>
-        ensures { MatchResult result
-            (λ _. fits_form self.now.words.now items.now ≡ true)
-            (λ f. (fits_form self.now.words.now items.now ≡ false) × (f ≡ form)) }
-    {
-        if self.fits(items) { Ok(()) } else { Err(form) }
-    }
-
-    // A line of a keyword and a list, or what was expected instead.
-    fn expect_list(&self, item: Item, form: Form) -> Result<(), Form>
-        ensures { MatchResult result
-            (λ _. list_fits self.now.words.now item ≡ true)
-            (λ f. (list_fits self.now.words.now item ≡ false) × (f ≡ form)) }
-    {
-        if self.list_fits(item) {
-            Ok(())
-        } else {
-            Err(form)
         }
     }
 
@@ -444,19 +420,6 @@ impl<'a> Line<'a> {
             (Token::Var(n), Table::Vars) => n == self.rows_given(Table::Vars),
             (Token::Expr(n), Table::Exprs) => n == self.rows_given(Table::Exprs),
             _ => false,
-        }
-    }
-
-    // A line that makes a row names it, and the name is the next one of the table.
-    fn expect_next(&self, token: Token, table: Table) -> Result<(), Form>
-        ensures { MatchResult result
-            (λ _. is_next self.now.list.now token table ≡ true)
-            (λ f. (is_next self.now.list.now token table ≡ false) × (f ≡ Form.Next)) }
-    {
-        if self.is_next(token, table) {
-            Ok(())
-        } else {
-            Err(Form::Next)
         }
     }
 
@@ -524,7 +487,7 @@ impl<'a> Line<'a> {
     fn sort_plan(&self) -> Result<Plan, Form>
         ensures { result ≡ sort_plan self.now.list.now self.now.words.now }
     {
-        self.expect_next(self.token_at(1), Table::Sorts)?;
+        expect(self.is_next(self.token_at(1), Table::Sorts), Form::Next)?;
         if let Some(plan) = self.parts_row(
             Keyword::Sort,
             Item::Sort,
@@ -561,12 +524,12 @@ impl<'a> Line<'a> {
     fn var_plan(&self) -> Result<Plan, Form>
         ensures { result ≡ var_plan self.now.list.now self.now.words.now }
     {
-        self.expect(
-            &[Item::Word(Keyword::Var), Item::Var, Item::Node],
+        expect(
+            self.fits(&[Item::Word(Keyword::Var), Item::Var, Item::Node]),
             Form::Var,
         )?;
-        self.expect_next(self.token_at(1), Table::Vars)?;
-        self.expect_next(self.token_at(2), Table::Nodes)?;
+        expect(self.is_next(self.token_at(1), Table::Vars), Form::Next)?;
+        expect(self.is_next(self.token_at(2), Table::Nodes), Form::Next)?;
         Ok(Plan {
             free: 1,
             ..row_plan(Table::Nodes, [VARIABLE_KIND, self.word_at(1), 0, 0, 0])
@@ -578,7 +541,10 @@ impl<'a> Line<'a> {
     fn vars_plan(&self) -> Result<Plan, Form>
         ensures { result ≡ vars_plan self.now.words.now }
     {
-        self.expect(&[Item::Word(Keyword::Vars), Item::Number], Form::Vars)?;
+        expect(
+            self.fits(&[Item::Word(Keyword::Vars), Item::Number]),
+            Form::Vars,
+        )?;
         Ok(Plan {
             free: self.word_at(1),
             ..NOTHING
@@ -608,8 +574,8 @@ impl<'a> Line<'a> {
     fn bind_plan(&self) -> Result<Plan, Form>
         ensures { result ≡ bind_plan self.now.list.now self.now.words.now }
     {
-        self.expect(
-            &[Item::Word(Keyword::Bind), Item::Var, Item::Place],
+        expect(
+            self.fits(&[Item::Word(Keyword::Bind), Item::Var, Item::Place]),
             Form::Bind,
         )?;
         self.bound_plan(SortVar(self.word_at(1)), InferSortId(self.word_at(2)))
@@ -620,7 +586,7 @@ impl<'a> Line<'a> {
     fn node_plan(&self) -> Result<Plan, Form>
         ensures { result ≡ node_plan self.now.list.now self.now.words.now }
     {
-        self.expect_next(self.token_at(1), Table::Nodes)?;
+        expect(self.is_next(self.token_at(1), Table::Nodes), Form::Next)?;
         if let Some(plan) = self.parts_row(
             Keyword::Node,
             Item::Node,
@@ -646,9 +612,9 @@ impl<'a> Line<'a> {
     fn expr_plan(&self) -> Result<Plan, Form>
         ensures { result ≡ expr_plan self.now.list.now self.now.words.now }
     {
-        self.expect_next(self.token_at(1), Table::Exprs)?;
-        self.expect(
-            &[Item::Word(Keyword::Expr), Item::Expr, Item::Place],
+        expect(self.is_next(self.token_at(1), Table::Exprs), Form::Next)?;
+        expect(
+            self.fits(&[Item::Word(Keyword::Expr), Item::Expr, Item::Place]),
             Form::Expr,
         )?;
         Ok(row_plan(Table::Exprs, [self.word_at(2), 0, 0, 0, 0]))
@@ -713,7 +679,10 @@ impl<'a> Line<'a> {
     fn default_plan(&self) -> Result<Plan, Form>
         ensures { result ≡ default_plan self.now.words.now }
     {
-        self.expect(&[Item::Word(Keyword::Default), Item::Sort], Form::Default)?;
+        expect(
+            self.fits(&[Item::Word(Keyword::Default), Item::Sort]),
+            Form::Default,
+        )?;
         Ok(put_plan(DEFAULT_AT, self.word_at(1)))
     }
 
@@ -728,7 +697,7 @@ impl<'a> Line<'a> {
     ) -> Result<Plan, Form>
         ensures { result ≡ pair_plan self.now.words.now keyword item kind form }
     {
-        self.expect(&[Item::Word(keyword), Item::Place, item], form)?;
+        expect(self.fits(&[Item::Word(keyword), Item::Place, item]), form)?;
         let row = [kind as u16, self.word_at(1), self.word_at(2), 0, 0];
         Ok(constraint_row(row, LastConstraint::Other))
     }
@@ -738,13 +707,13 @@ impl<'a> Line<'a> {
     fn comprehension_plan(&self) -> Result<Plan, Form>
         ensures { result ≡ comprehension_plan self.now.words.now }
     {
-        self.expect(
-            &[
+        expect(
+            self.fits(&[
                 Item::Word(Keyword::Comprehension),
                 Item::Place,
                 Item::Place,
                 Item::Sort,
-            ],
+            ]),
             Form::Comprehension,
         )?;
         let kind = ConstraintKind::Comprehension as u16;
@@ -757,8 +726,8 @@ impl<'a> Line<'a> {
     fn disjunction_plan(&self) -> Result<Plan, Form>
         ensures { result ≡ disjunction_plan self.now.list.now self.now.words.now }
     {
-        self.expect(
-            &[Item::Word(Keyword::Disjunction), Item::Expr, Item::Place],
+        expect(
+            self.fits(&[Item::Word(Keyword::Disjunction), Item::Expr, Item::Place]),
             Form::Disjunction,
         )?;
         let kind = ConstraintKind::Disjunction as u16;
@@ -827,7 +796,7 @@ impl<'a> Line<'a> {
     fn join_plan(&self) -> Result<Plan, Form>
         ensures { result ≡ join_plan self.now.list.now self.now.words.now }
     {
-        self.expect_list(Item::Place, Form::Join)?;
+        expect(self.list_fits(Item::Place), Form::Join)?;
         let first = self.rows_given(Table::Sources);
         let sources = saturated(self.words.len().saturating_sub(2));
         let row = [
@@ -866,7 +835,7 @@ impl<'a> Line<'a> {
     fn sources_plan(&self) -> Result<Plan, Form>
         ensures { result ≡ sources_plan self.now.list.now self.now.words.now }
     {
-        self.expect_list(Item::Place, Form::Sources)?;
+        expect(self.list_fits(Item::Place), Form::Sources)?;
         let more = saturated(self.words.len().saturating_sub(1));
         Ok(Plan {
             put: self.grown(LastConstraint::Join, 3, more),
@@ -879,7 +848,7 @@ impl<'a> Line<'a> {
     fn entries_plan(&self, table: Table, form: Form) -> Result<Plan, Form>
         ensures { result ≡ entries_plan self.now.words.now table form }
     {
-        self.expect_list(Item::Number, form)?;
+        expect(self.list_fits(Item::Number), form)?;
         Ok(self.run_plan(table))
     }
 
@@ -888,15 +857,15 @@ impl<'a> Line<'a> {
     fn constraint_plan(&self) -> Result<Plan, Form>
         ensures { result ≡ constraint_plan self.now.words.now }
     {
-        self.expect(
-            &[
+        expect(
+            self.fits(&[
                 Item::Word(Keyword::Constraint),
                 Item::Number,
                 Item::Number,
                 Item::Number,
                 Item::Number,
                 Item::Number,
-            ],
+            ]),
             Form::Constraint,
         )?;
         let row = [
@@ -966,7 +935,10 @@ impl<'a> Line<'a> {
         requires { IfSome number (λ k. k ≤ 11) × (at ≤ memory_words) × (told_at ≤ memory_words) }
         ensures { result ≡ told_line self.now.words.now keyword number at told_at form }
     {
-        self.expect(&[Item::Word(keyword), Item::AnyWord, Item::Number], form)?;
+        expect(
+            self.fits(&[Item::Word(keyword), Item::AnyWord, Item::Number]),
+            form,
+        )?;
         let k = number.ok_or(form)?;
         Ok(told_plan(at + k, self.word_at(2), told_at + k))
     }
