@@ -2,11 +2,11 @@
 // first failing check of its call, and the lists packed into one slice.
 #![tactic(auto)]
 
-ghost use Rattle.std.specs.Prelude.{◌≡◌, true, ◌&&◌, [], ◌∷◌, ℕ, ◌^◌, Option, ◌+◌, ◌*◌, ◌<◌, leb, length};
+ghost use Rattle.std.specs.Prelude.{◌≡◌, Bool, true, ◌&&◌, [], ◌∷◌, ℕ, ◌^◌, Option, ◌+◌, ◌*◌, ◌<◌, leb, length};
 ghost use Rattle.std.specs.List.{sum_by};
 ghost use Rattle.inference.specs.declared.Constraint.{Constraint};
 ghost use Rattle.inference.specs.Constraints.{name_words, rows_from};
-ghost use Rattle.inference.specs.SolveChecks.{rows_within_lent, placed, listed, target_fine, exprs_fine, names_fine};
+ghost use Rattle.inference.specs.SolveChecks.{Call, rows_within_lent, placed, listed, target_fine, exprs_fine, names_fine};
 ghost use Rattle.inference.specs.SolveChecks.{overload_fine, run_fine, constraint_fine, constraints_fine};
 ghost use Rattle.inference.specs.SolveChecks.{disjunction_for, disjunctions, given, no_two, keys, has_sources};
 ghost use Rattle.inference.specs.SolveChecks.{joins_fine, components_of, components as componentsIn, all_within_lent};
@@ -98,11 +98,13 @@ fn fits(count: usize, ceiling: usize, width: usize, lent: &[u16]) -> bool
     count <= ceiling && width * count <= lent.len()
 }
 
-// Whether a run is inside a list of so many.
-fn run_within(run: Run, count: usize) -> bool
-    ensures { result ≡ leb (run.start + run.count) count }
+// Whether a run is inside a list of so many, and each of it is fine.
+fn run_fine<F: Fn(u32) -> bool>(run: Run, count: usize, fine: F) -> bool
+    requires { F.IsAlwaysCallable fine }
+    ensures { (I : Call) (f : ℕ → Bool) → Computes (F.post fine) f → result ≡ run_fine I count f run }
 {
     (run.start as usize) + (run.count as usize) <= count
+        && (0..run.count).all(|j| fine((run.start as u32) + (j as u32)))
 }
 
 // Marks an expression, and whether it was not marked yet. Past the end there is nothing to mark.
@@ -275,12 +277,12 @@ impl Problem<'_> {
             && self.target_fine(word(self.names, row + 1), SortId(word(self.names, row + 2)))
     }
 
-    // Whether the j-th overload of a run has a fine target and a place.
+    // Whether the i-th overload has a fine target and a place.
     #[tactic(auto, unfolding(inference::specs::SolveChecks::overload_fine))]
-    fn overload_fine(&self, start: u16, j: u16) -> bool
-        ensures { result ≡ overload_fine (call_for self.now) (start + j) }
+    fn overload_fine(&self, i: u32) -> bool
+        ensures { result ≡ overload_fine (call_for self.now) i }
     {
-        let row = OVERLOAD_WORDS * ((start as usize) + (j as usize));
+        let row = OVERLOAD_WORDS * (i as usize);
         self.target_fine(
             word(self.overloads, row),
             SortId(word(self.overloads, row + 1)),
@@ -292,8 +294,14 @@ impl Problem<'_> {
         ensures { result
             ≡ run_fine (call_for self.now) self.now.given.overloads (overload_fine (call_for self.now)) run }
     {
-        run_within(run, self.given.overloads)
-            && (0..run.count).all(|j| self.overload_fine(run.start, j))
+        run_fine(run, self.given.overloads, |i| self.overload_fine(i))
+    }
+
+    // Whether the i-th source is a place.
+    fn source_fine(&self, i: u32) -> bool
+        ensures { result ≡ source_fine (call_for self.now) i }
+    {
+        self.placed(InferSortId(word(self.sources, i as usize)))
     }
 
     // Whether a run is inside the sources, and each of it is a place.
@@ -301,11 +309,7 @@ impl Problem<'_> {
         ensures { result
             ≡ run_fine (call_for self.now) self.now.given.sources (source_fine (call_for self.now)) run }
     {
-        run_within(run, self.given.sources)
-            && (0..run.count).all(|j| {
-                let at = (run.start as usize) + (j as usize);
-                self.placed(InferSortId(word(self.sources, at)))
-            })
+        run_fine(run, self.given.sources, |i| self.source_fine(i))
     }
 
     // Whether a constraint is fine, by what it says; b is the word of a literal's kind.
