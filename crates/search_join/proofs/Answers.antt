@@ -10,17 +10,16 @@ use Prim.Native.Nat.{ℕ}
 use Rattle.resolved_sort.specs.declared.SortId.{SortId}
 use Rattle.resolved_sort.specs.declared.Counts.{Counts}
 use Rattle.resolved_sort.specs.declared.Steps.{Steps as StepsAnswer}
-use Rattle.resolved_sort.specs.Order.{Steps, steps_of, distance}
-use Rattle.resolved_sort.specs.Entries.{Stored, tree_at}
+use Rattle.resolved_sort.specs.Order.{Steps, steps_of}
+use Rattle.resolved_sort.specs.Entries.{Stored}
 use Rattle.resolved_sort.specs.Rows.{left_at}
-use Rattle.resolved_sort.specs.Bounds.{Asked, bound_at}
+use Rattle.resolved_sort.specs.Bounds.{bound_at}
 use Rattle.resolved_sort.proofs.Reached.{no_confusion}
 use Rattle.unification.specs.declared.Lengths.{Lengths}
 use Rattle.unification.specs.Default.{Default}
 use Rattle.unification.specs.Nodes.{binds_of}
-use Rattle.unification.specs.Checked.{Ready, Placed}
 use Rattle.unification.specs.Inner.Resolve.{value_in}
-use Rattle.unification.specs.Resolve.{DefaultBelow, term_resolved, with_counts}
+use Rattle.unification.specs.Resolve.{term_resolved, with_counts}
 use Rattle.inference.specs.Search.{makes_sort, resolve_in, join_in, head_steps}
 use Rattle.search_state.specs.Inner.Leaves.{made_of}
 use Rattle.unification.specs.Making.{Makes}
@@ -67,17 +66,6 @@ module _ (ws ns : List ℕ) (k : Lengths) (K : Counts) (eK : K ≡ record { sort
       pub join_ends : (x : NoRoom) → r ≡ Err x → (y : NoRoom) → made_of vs ns k (Err y) ≡ join_in a b (lent ws ns k)
       unfolding join_in
       join_ends x z y = ends (bound_at true ws k.sorts k.entries a b) same_bound x y z
-
-  pub sort_asked : (bs : List ℕ) (d : Default) (p : ℕ) → Ready ws ns bs k × DefaultBelow k.sorts d × Placed k p
-      → (Ready ws ns bs (with_counts k K) × DefaultBelow K.sorts d) × Placed (with_counts k K) p
-  sort_asked bs d p h = rw eK ((h.0, h.1), h.2)
-
-  pub join_asked : (a b : ℕ) → Asked ws k.sorts k.entries a b → Asked ws K.sorts K.entries a b
-  join_asked a b h = rw eK h
-
--- the distance of two sorts of a list
-abbrev pub between : List ℕ → ℕ → ℕ → ℕ → Maybe Steps
-between ws n a b = distance true (tree_at ws n a) (tree_at ws n b)
 
 -- the head of a distance, where there is one
 pub head_is : (o : Maybe Steps) (d : StepsAnswer) (r : Option StepsAnswer) → r ≡ steps_of o → r ≡ Is d → d.head ≡ head_steps o

@@ -4,7 +4,6 @@ use mathlib.Core.Bool.{Bool, true, false, ◌&&◌, and-eq-true_iff}
 use mathlib.Core.List.{List, [], ◌∷◌}
 use Prim.Native.Nat.{ℕ, zero, suc, ◌+◌, ◌<◌, ◌≤◌}
 use native.Mathlib.Omega.{arith}
-use native.Mathlib.Nat.{add-zero}
 use lib.ListN.{length, get_or, drop, set, drop_of_length-le}
 use lib.Seq.{sets}
 use borrow.Author.Count.{below_more}
@@ -71,9 +70,6 @@ module _ (ws : List ℕ) (n : ℕ) (ids : List ℕ) (j : ℕ) (below : AllBelow 
 
 -- stored one after another
 module _ (ws : List ℕ) (n : ℕ) (ids : List ℕ) (j : ℕ) (sc₀ : List ℕ) (p : ℕ) where
-  pub heads_start : sets sc₀ p (heads_to ws n j ids) ≡ stored_from ws n j ids sc₀ p 0
-  heads_start = ap (λ (q : ℕ). sets sc₀ q (heads_to ws n j ids)) (sym (add-zero p))
-
   module _ (sc : List ℕ) (i : ℕ) (inv : sets sc₀ p (heads_to ws n j ids) ≡ stored_from ws n j ids sc p i) where
     pub heads_next : i < length ids → (s : ℕ) → s ≡ get_or ids i 0 → (h : ℕ) → h ≡ head_to ws n j s → (sc' : List ℕ) → sc' ≡ set sc (p + i) h
         → sets sc₀ p (heads_to ws n j ids) ≡ stored_from ws n j ids sc' p (i + 1)

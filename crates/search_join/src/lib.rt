@@ -71,6 +71,7 @@ pub fn sort_of(
 }
 
 // The join of two sorts. It does not look at nodes, whatever they are.
+// kept: beside sort_of and intern_container: over a closure, the contract of what it leaves is longer than these lines.
 fn join_of(search: &mut Search<'_>, lhs: SortId, rhs: SortId) -> Result<Option<SortId>, NoRoom>
     requires { Asked search.old.sorts.now search.old.lengths.sorts search.old.lengths.entries lhs.0
         rhs.0 }

@@ -2,7 +2,7 @@
 use mathlib.Core.Path.{◌≡◌, refl, ap, sym, ◌∙◌, subst}
 use mathlib.Core.Bool.{Bool, true, false}
 use mathlib.Core.List.{List, [], ◌∷◌}
-use Prim.Native.Nat.{ℕ, zero, suc, ◌+◌, ◌<◌, ◌≤◌}
+use Prim.Native.Nat.{ℕ, zero, suc, ◌+◌, ◌≤◌}
 use native.Mathlib.Omega.{arith}
 use lib.ListN.{get_or, length, take}
 use Rattle.resolved_sort.specs.declared.ComplexSort.{ComplexSort}
@@ -60,9 +60,6 @@ module _ (t : Tries) (j : ℕ) where
 
 -- a container that is interned, with counts K then
 module _ (o : ComplexSort) (s : ℕ) (ws : List ℕ) (k : Lengths) (c : Counts) (ec : c ≡ record { sorts = k.sorts; entries = k.entries }) where
-  pub container_asked : Checked ws k.sorts k.entries → s < k.sorts → Checked ws c.sorts c.entries × (s < c.sorts)
-  container_asked ck l = rw ec (ck, l)
-
   module _ (ws₁ : List ℕ) (K : Counts) (r : Result SortId NoRoom)
       (er : interned_at ws₁ K r ≡ intern_at ws c.sorts c.entries (container o (look (trees ws c.sorts) s))) where
     interned : interned_at ws₁ K r ≡ intern_at ws k.sorts k.entries (container o (look (trees ws k.sorts) s))
@@ -197,8 +194,3 @@ module _ (ws ns bs : List ℕ) (k : Lengths) (q : Ready ws ns bs k) (l r : ℕ) 
 
       pub narrower_no_room : (f : Full) → b ≡ Err f → FindsWidenings ws₂ ns₂ k₂ (Err f) (widenings B l r W)
       narrower_no_room f d = record { says = ap (λ (c : ℕ). no_room c Y) (same_code f) ∙ from_right (Err f) d; few = tt }
-
--- the words that the arena held are the search's
-pub finds_moved : (us vs ms ns : List ℕ) → vs ≡ us → ns ≡ ms → (k : Lengths) (r : Result (Option Tries) Full) (O : Makes (List Try))
-    → FindsWidenings us ms k r O → FindsWidenings vs ns k r O
-finds_moved us vs ms ns e f k r O x = rw (e, f) x

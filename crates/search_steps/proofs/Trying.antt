@@ -11,20 +11,19 @@ use Rattle.unification.specs.declared.Lengths.{Lengths}
 use Rattle.std.specs.Prelude.{Option}
 use Rattle.unification.specs.Nodes.{Binds, binds_of}
 use Rattle.unification.specs.Unify.{Unifies, unify}
-use Rattle.unification.specs.Checked.{graph_of, Ready, Placed}
+use Rattle.unification.specs.Checked.{graph_of, Ready}
 use Rattle.unification.specs.declared.InferSortId.{InferSortId}
 use Rattle.unification.specs.Trail.{UnifyLeaves, undo}
-use Rattle.unifier.specs.Inner.Trying.{Trying}
-use Rattle.unifier.specs.Unifier.{graph, bindings, CanTry, Keeps, Leaves}
+use Rattle.unifier.specs.Unifier.{graph, bindings, Keeps, Leaves}
 use Rattle.unifier.specs.declared.Unifier.{Unifier}
-use Rattle.unifier.proofs.Tries.{no_try, then_no, then_on, trying_on}
+use Rattle.unifier.proofs.Tries.{no_try, then_no, then_on}
 use Rattle.search_state.specs.declared.Branch.{Branch}
 use Rattle.search_state.specs.declared.Pairs.{Pairs}
 use Rattle.search_state.specs.declared.Pairs.TheVariants.{One, Two}
 use Rattle.search_state.specs.declared.Step.{Step}
 use Rattle.search_state.specs.declared.Step.TheVariants.{Nothing, Component, Written, Choice}
 use Rattle.search_state.specs.Inner.Memory.{trail_words, measure_at, choices_at, scratch_used}
-use Rattle.search_state.specs.Inner.Leaves.{unify_pairs, PairsPlaced, trail_after, is_made, TriesPairs, step_words, added_components, branch_after}
+use Rattle.search_state.specs.Inner.Leaves.{unify_pairs, trail_after, is_made, TriesPairs, step_words, added_components, branch_after}
 
 front : (sc ts : List ℕ) → length ts ≡ trail_words → take trail_words (ts ++ drop trail_words sc) ≡ ts
 front sc ts l = take-append-le trail_words ts (drop trail_words sc) (omega (arith, l)) ∙ take_all trail_words ts (omega (arith, l))
@@ -90,16 +89,6 @@ module _ (U₀ : Unifier) (p : Pairs) where
       first_made : Leaves (unify (graph U₀) (bindings U₀) l.0 r.0) U₀ V true
       first_made = subst (Leaves (unify (graph U₀) (bindings U₀) l.0 r.0) U₀ V) e x
 
-      pub second_asked : CanTry U₀ → PairsPlaced U₀.places.lengths p → CanTry V × Placed V.places.lengths l'.0 × Placed V.places.lengths r'.0
-      second_asked t h =
-          let i : PairsPlaced U₀.places.lengths (Two l r l' r') = subst (PairsPlaced U₀.places.lengths) q h in (
-            subst (λ P. Trying P.sorts.now P.nodes.now V.binds.now V.trail.now P.lengths V.count) (sym K.0)
-                (trying_on U₀.places.sorts.now U₀.places.nodes.now U₀.places.lengths (unify (graph U₀) (bindings U₀) l.0 r.0)
-                U₀.binds.now U₀.trail.now U₀.count V.binds.now V.trail.now V.count t K.4 first_made),
-            subst (λ P. Placed P.lengths l'.0) (sym K.0) i.2,
-            subst (λ P. Placed P.lengths r'.0) (sym K.0) i.3,
-          )
-
       pub both_made : (Z : Unifier) (d : Bool) → Leaves (unify (graph V) (bindings V) l'.0 r'.0) V Z d → Leaves all U₀ Z d
       unfolding unify_pairs
       both_made Z d y =
@@ -108,9 +97,6 @@ module _ (U₀ : Unifier) (p : Pairs) where
           (subst (λ P. UnifyLeaves P.sorts.now P.nodes.now P.lengths
           (unify (graph_of P.sorts.now P.nodes.now P.lengths) (binds_of V.binds.now P.lengths.variables) l'.0 r'.0)
           V.binds.now V.trail.now V.count Z.binds.now Z.trail.now Z.count d) K.0 y))
-
-pub keeps_on : (U V Z : Unifier) → Keeps U V → Keeps V Z → Keeps U Z
-keeps_on U V Z k l = (l.0 ∙ k.0, l.1 ∙ k.1, l.2 ∙ k.2, l.3 ∙ k.3, l.4 ∙ k.4)
 
 -- A step, by its kind: the words that it writes, and the counts after it.
 abbrev pub Pushes : List ℕ → Branch → ℕ → Step → List ℕ → Branch → Type 0
@@ -138,14 +124,6 @@ module _ (sc : List ℕ) (e : Branch) (t : ℕ) (s : Step) where
 -- the room that a step asks for, by its kind
 pub written_room : (e : Branch) (s : Step) (n : ℕ) → s ≡ Written n → e.measure + added_components s ≤ 256 → e.measure + n ≤ 256
 written_room e s n q l = rw q at l
-
--- the places of a try, by its kind
-pub one_placed : (k : Lengths) (p : Pairs) (l r : InferSortId) → p ≡ One l r → PairsPlaced k p → Placed k l.0 × Placed k r.0
-one_placed k p l r q h = rw q at h
-
-pub two_placed : (k : Lengths) (p : Pairs) (l r l' r' : InferSortId) → p ≡ Two l r l' r' → PairsPlaced k p
-    → Placed k l.0 × Placed k r.0 × Placed k l'.0 × Placed k r'.0
-two_placed k p l r l' r' q h = rw q at h
 
 -- the words that the unifier held are those that were lent
 pub leaves_moved : (us vs : List ℕ) → vs ≡ us → (ts₁ ts₂ : List ℕ) → ts₂ ≡ ts₁ → (ws ns : List ℕ) (k : Lengths) (U : Unifies) (bs ts : List ℕ)
