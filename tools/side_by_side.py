@@ -54,7 +54,9 @@ def things(tree, named):
                 statement = "\n".join(law.modules + (law.text if law.kind or parts[2] == "specs" else law.head,))
                 if parts[2] == "specs":
                     add(parts[1], "definitions", key, statement)
-                elif ": goal." not in law.head and named(law.name, parts[1], parts[-1][:-5]):
+                elif ": goal." in law.head:  # the answer to a goal of a function
+                    continue
+                elif named(law.name, parts[1], parts[-1][:-5]):
                     add(parts[1], "laws", key, statement)
                 else:
                     inner[parts[1]][law.name, same(statement)] += 1
@@ -151,10 +153,12 @@ def headed(text, why):
 PAGE = """# Old and new, side by side
 
 What `python3 tools/side_by_side.py` prints, of {old} and of {new}:
-by crate each public function or method with its clauses, each public type (with its ghost fields), trait (with what impls say for its ghost items) and constant, each definition of specs/,
-and each law of proofs/ that README or docs/ name, where it differs. A line with - is the old text, one with + the new, one with neither stands in
+by crate each public function or method with its clauses, each public type (with its ghost fields), trait (with what impls say for its ghost
+items) and constant, each definition of specs/, and each law of proofs/ that README or docs/ name, where it differs. A line with - is the old text, one with + the new, one with neither stands in
 both; of more than nine such lines in a row only the ends are shown. Comments, attributes and bodies of functions are left out, and so is what differs
 in layout alone or by a comma or semicolon before a closing bracket; nothing else is. A law is a statement, with the modules around it, and no proof.
+Of the laws that no document names their number is told, and the names that went: they were steps in the proofs of contracts of functions, and the
+contracts of these, or of the functions that took their place, state what they were for. Answers to goals are left out.
 What took the place of another name is told by the name itself or by tools/moved.tsv. docs/DESIGN-PASS.md says the reasons by crate.
 
 Names exported for C: {exports}.
@@ -231,7 +235,9 @@ def main(words):
                 lines += headed(thing.key + " is new", "") + marked("+", thing.text)
             print("```diff\n" + "\n".join(lines[1:]) + "\n```\n")
         was, now = old_inner[crate], new_inner[crate]
-        print(f"Other laws of proofs/: {sum(was.values())} before, {sum(now.values())} now, {sum((was & now).values())} of them with the same statement.\n")
+        print(f"Other laws of proofs/: {sum(was.values())} before, {sum(now.values())} now, {sum((was & now).values())} of them with the same statement.", end="")
+        went = {name for name, _ in was} - {name for name, _ in now} - {bare(thing.key) for thing in new.values() if thing.crate == crate}
+        print(f" Names that went: {', '.join(sorted(went))}.\n" if went else "\n")
 
 
 def grouped(rows):
