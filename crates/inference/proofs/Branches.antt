@@ -11,8 +11,8 @@ use Prim.Native.Nat.{ℕ, suc, ◌+◌, ◌<◌}
 use native.Mathlib.Omega.{arith}
 use lib.ListN.{length, take, drop, length-append, length-take}
 use Rattle.resolved_sort.specs.declared.Run.{Run}
-use Rattle.resolved_sort.specs.declared.Joined.{Joined}
-use Rattle.resolved_sort.specs.declared.Joined.TheVariants.{At, Nothing as NotThere, Full}
+use Rattle.resolved_sort.specs.Entries.{Joined}
+use Rattle.resolved_sort.specs.Entries.{At, Nothing as NotThere, Full}
 use Rattle.resolved_sort.specs.Tree.{unit, primitive, def, typevar}
 use Rattle.resolved_sort.specs.Order.{distance}
 use Rattle.resolved_sort.specs.Entries.{Stored}

@@ -7,8 +7,8 @@ use mathlib.Core.List.{List, [], ◌∷◌}
 use mathlib.Core.Option.{none, some}
 use Prim.Native.Nat.{ℕ, ◌<◌, ◌≤◌}
 use native.Mathlib.Omega.{arith}
-use Rattle.resolved_sort.specs.declared.Joined.{Joined}
-use Rattle.resolved_sort.specs.declared.Joined.TheVariants.{At, Nothing as NotThere, Full}
+use Rattle.resolved_sort.specs.Entries.{Joined}
+use Rattle.resolved_sort.specs.Entries.{At, Nothing as NotThere, Full}
 use Rattle.resolved_sort.specs.declared.ComplexSort.{ComplexSort}
 use Rattle.resolved_sort.specs.Tree.{Tree, container}
 use Rattle.resolved_sort.specs.Order.{join, Steps, distance, materializable}

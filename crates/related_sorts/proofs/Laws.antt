@@ -14,8 +14,8 @@ use Rattle.resolved_sort.specs.declared.ComplexSort.{ComplexSort}
 use Rattle.resolved_sort.specs.declared.SortId.{SortId}
 use Rattle.resolved_sort.specs.declared.Counts.{Counts}
 use Rattle.std.specs.Prelude.{Option as Found, Some, None, Result, Ok, Err}
-use Rattle.resolved_sort.specs.declared.Joined.{Joined}
-use Rattle.resolved_sort.specs.declared.Joined.TheVariants.{At as JoinedAt, Nothing as JoinedNothing, Full as JoinedFull}
+use Rattle.resolved_sort.specs.Entries.{Joined}
+use Rattle.resolved_sort.specs.Entries.{At as JoinedAt, Nothing as JoinedNothing, Full as JoinedFull}
 use Rattle.resolved_sort.specs.Tree.{Tree, container}
 use Rattle.resolved_sort.specs.Interning.{look, member, made as made-sort, full, fits, intern}
 use Rattle.resolved_sort.specs.Storage.{function_kind, Row, kind_op, put_row, trees, sorts_of}

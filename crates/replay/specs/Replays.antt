@@ -22,8 +22,8 @@ step_of step s line =
     (cond (eqb (get_or line 0 0) (code "#")) (s, Quiet) (numbers_step step s (get_or line 0 0) (fields_of line)))
 
 -- so many bytes of a line are held: one more than a line may have
-abbrev pub held_line : ℕ
-held_line = 257
+abbrev pub held_bytes : ℕ
+held_bytes = 257
 
 -- a line that fills its memory is too long, and not of the form
 unfoldable pub line_step : {S : Type 0} → (S → ℕ → List ℕ → S × Verdict) → ℕ → S → List ℕ → S × Verdict

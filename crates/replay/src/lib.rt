@@ -6,7 +6,7 @@ ghost use Rattle.std.specs.Prelude.{Bool, List, ℕ, ◌≡◌, ◌+◌, ◌*◌
 ghost use Rattle.replay.specs.Inner.Numbers.{max_fields, digits, number_at, fields_of, values_read};
 ghost use Rattle.std.specs.Io.KnownBytes.{Appends};
 ghost use Rattle.replay.specs.Said.{line_said, bad_said, other_said, said_of, unless, counted_unless, end_said};
-ghost use Rattle.replay.specs.Replays.{step_of, line_step, line_text, held_line, Replayed};
+ghost use Rattle.replay.specs.Replays.{step_of, line_step, line_text, held_bytes, Replayed};
 ghost use Rattle.replay.specs.Inner.Lines.{near_enough, words_kept, store_from, one_more, counted_of};
 
 use line_input::Lines;
@@ -29,6 +29,7 @@ const BUFFER_BYTES: usize = 4096;
 const MOST_VALUE: u64 = 999999999999999999;
 
 // The numbers of a line.
+// kept: an array with a count, since there is no heap; what reads them reads the slice that `numbers` answers.
 #[derive(Clone, Copy, Debug, PartialEq, Eq)]
 pub struct Fields {
     pub values: [u64; MAX_FIELDS],
@@ -73,6 +74,7 @@ fn digit_count(text: &[u8]) -> usize
 }
 
 // The number at a position of a line, by its decimal digits, of which it has at least one, and the position past them.
+// kept: digit by digit, since `parse` reads numbers up to 2^64 - 1, and those of recorded lines are below 10^19.
 fn number_at(line: &[u8], at: usize) -> Option<(u64, usize)>
     ensures { result ≡ number_at line.now at }
 {
@@ -355,7 +357,7 @@ pub fn run<T: Recorded, R: Read, W: Write>(
     reader: &mut R,
     out: &mut W,
 ) -> io::Result<()>
-    ensures { OnOk result (Replayed T.step T.complete held_line recorded.old (W.contents out.old) (W.contents out.new)) }
+    ensures { OnOk result (Replayed T.step T.complete held_bytes recorded.old (W.contents out.old) (W.contents out.new)) }
 {
     let mut buffer = [0u8; BUFFER_BYTES];
     let mut line = [0u8; HELD_LINE];

@@ -12,8 +12,8 @@ use Rattle.resolved_sort.specs.declared.SortId.{SortId}
 use Rattle.resolved_sort.specs.declared.Sort.{Sort}
 use Rattle.resolved_sort.specs.declared.ComplexSort.{ComplexSort}
 use Rattle.resolved_sort.specs.declared.Counts.{Counts}
-use Rattle.resolved_sort.specs.declared.Joined.{Joined}
-use Rattle.resolved_sort.specs.declared.Joined.TheVariants.{At, Nothing, Full}
+use Rattle.resolved_sort.specs.Entries.{Joined}
+use Rattle.resolved_sort.specs.Entries.{At, Nothing, Full}
 use Rattle.resolved_sort.specs.Tree.{Flat, primitive, Tree, flat, container, function, Trees, arity, family, level, same}
 use Rattle.resolved_sort.specs.Order.{le_level, bound_flat, bound_op}
 use Rattle.resolved_sort.specs.Interning.{Sorts, look, number, member, need, Outcome, made, nothing, ◌then◌, where_some, intern, make, makes}

@@ -7,8 +7,8 @@ use mathlib.Core.Option.{Option, none, some}
 use Prim.Native.Nat.{ℕ}
 use Rattle.resolved_sort.specs.declared.Sort.{Sort}
 use Rattle.resolved_sort.specs.declared.ComplexSort.{ComplexSort}
-use Rattle.resolved_sort.specs.declared.PartialOrder.{PartialOrder}
-use Rattle.resolved_sort.specs.declared.PartialOrder.TheVariants.{Unrelated, Equal, Below, Above}
+use Rattle.resolved_sort.specs.Order.{PartialOrder}
+use Rattle.resolved_sort.specs.Order.{Unrelated, Equal, Below, Above}
 use Rattle.resolved_sort.specs.Tree
 use Rattle.resolved_sort.specs.Tree.{Flat, unit, primitive, def, typevar, Tree, flat, container, function, Trees, no_args, arg}
 use Rattle.resolved_sort.specs.Order

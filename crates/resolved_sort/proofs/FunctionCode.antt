@@ -10,8 +10,8 @@ use lib.ListN.{length, take, replicate, length-replicate, length-append}
 use lib.Seq.{sets, sets-eq, take-append_seam}
 use Rattle.resolved_sort.specs.declared.SortId.{SortId}
 use Rattle.resolved_sort.specs.declared.Counts.{Counts}
-use Rattle.resolved_sort.specs.declared.Joined.{Joined}
-use Rattle.resolved_sort.specs.declared.Joined.TheVariants.{At, Nothing, Full}
+use Rattle.resolved_sort.specs.Entries.{Joined}
+use Rattle.resolved_sort.specs.Entries.{At, Nothing, Full}
 use Rattle.resolved_sort.specs.Inner.Bounds.{All, Nothing as NotAll, Full as NoRoom}
 use Rattle.resolved_sort.specs.Inner.Bounds.{Domain}
 use Rattle.resolved_sort.specs.Tree.{Tree, function, Trees, no_args, arg, arity}

@@ -7,8 +7,8 @@ use Rattle.std.specs.Prelude.{Option as Answer, Some, None}
 use Rattle.std.specs.declared.cmp.Ordering.{Ordering}
 use Rattle.std.specs.declared.cmp.Ordering.TheVariants.{Less, Equal as Same, Greater}
 use Rattle.resolved_sort.specs.declared.ComplexSort.{ComplexSort}
-use Rattle.resolved_sort.specs.declared.PartialOrder.{PartialOrder}
-use Rattle.resolved_sort.specs.declared.PartialOrder.TheVariants.{Unrelated, Equal, Below, Above}
+use Rattle.resolved_sort.specs.Order.{PartialOrder}
+use Rattle.resolved_sort.specs.Order.{Unrelated, Equal, Below, Above}
 use Rattle.resolved_sort.specs.Tree.{Flat, Tree, flat, container, function, Trees, no_args, arg, family, level, family_op, level_op}
 use Rattle.resolved_sort.specs.Order.{le_flat, le_op, le, les, order, order_of, OrderSays, ordering, ordering_of, OrderingSays, partial_order_of}
 use Rattle.resolved_sort.proofs.Heads.{head_refl, head_trans, head_flips, head_antisym, flat_injective, op_injective}

@@ -10,7 +10,7 @@ use lib.Dec.{leb, ltb}
 use borrow.Author.Tests.{ltb-true, leb-true, lt-ltb, le-ltb, le-leb}
 use Rattle.resolved_sort.specs.declared.ResolvedSort.{ResolvedSort}
 use Rattle.resolved_sort.specs.declared.ResolvedSort.TheVariants.{Unit as UnitRow, Primitive, Container, Function, Def, TypeVar}
-use Rattle.resolved_sort.specs.declared.Joined.TheVariants.{At, Full}
+use Rattle.resolved_sort.specs.Entries.{At, Full}
 use Rattle.resolved_sort.specs.Tree.{Tree}
 use Rattle.resolved_sort.specs.Interning.{look, number, member, need, made, full, fits, intern}
 use Rattle.resolved_sort.specs.Storage.{max_sorts, max_entries, row_at, trees, row_of, append_row, sorts_of, entries_of, look_all}

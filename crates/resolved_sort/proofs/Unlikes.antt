@@ -6,7 +6,7 @@ use mathlib.Core.Option.{Option, none, some}
 use Prim.Native.Nat.{ℕ, ◌+◌}
 use borrow.Author.Tests.{ne_eqb}
 use Rattle.std.specs.Prelude.{None}
-use Rattle.resolved_sort.specs.declared.PartialOrder.TheVariants.{Unrelated}
+use Rattle.resolved_sort.specs.Order.{Unrelated}
 use Rattle.resolved_sort.specs.Tree.{Tree, Trees, no_args, arg, arity}
 use Rattle.resolved_sort.specs.Order.{le, les, order, ordering, Steps, distance, materializable}
 use Rattle.resolved_sort.proofs.Numbers.{true_not_false}

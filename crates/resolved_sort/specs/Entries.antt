@@ -2,19 +2,14 @@
 -- codes" and "Sorts (002)".
 use Rattle.std.specs.Prelude.{Bool, true, List, ℕ, ◌-◌, length, drop, Result, Ok, Err}
 use Rattle.std.specs.Prelude as Rust
-use Rattle.std.proofs.Math.Option.{Option, none, some}
 use Rattle.resolved_sort.specs.declared.Counts.{Counts}
-use Rattle.resolved_sort.specs.declared.Joined.{Joined}
-use Rattle.resolved_sort.specs.declared.Joined.TheVariants.{At, Nothing, Full}
-use Rattle.resolved_sort.specs.declared.Widening.{Widening}
-use Rattle.resolved_sort.specs.declared.Widening.TheVariants.{Distance, Nothing as NoDistance}
 use Rattle.std.specs.declared.cmp.Ordering.{Ordering}
 use Rattle.resolved_sort.specs.declared.Steps.{Steps as StepsAnswer}
 use Rattle.resolved_sort.specs.declared.Refusal.{Refusal}
 use Rattle.resolved_sort.specs.declared.Refusal.TheVariants.{SortsFull}
 use Rattle.resolved_sort.specs.declared.SortId.{SortId}
 use Rattle.resolved_sort.specs.Tree.{Tree}
-use Rattle.resolved_sort.specs.Order.{ordering, Steps, steps_of, distance, materializable}
+use Rattle.resolved_sort.specs.Order.{ordering, steps_of, distance, materializable}
 use Rattle.resolved_sort.specs.Interning.{Sorts, look, number, Outcome, made, nothing, full, make}
 use Rattle.resolved_sort.specs.Storage.{max_entries, trees, sorts_of, written, given_back}
 use Rattle.resolved_sort.specs.Checks.{code_of, Tested, first_failing, pair_checks}
@@ -37,10 +32,6 @@ unfoldable pub compared : List ℕ → ℕ → ℕ → ℕ → ℕ → Result (R
 compared ws n e a b =
     refused_or (first_failing (pair_checks ws n e a b)) Err (Ok (ordering (tree_at ws n a) (tree_at ws n b)))
 
-abbrev pub widening_of : Option Steps → Widening
-widening_of none = NoDistance
-widening_of (some d) = Distance d.head d.interior
-
 unfoldable pub measured : List ℕ → ℕ → ℕ → ℕ → ℕ → Result (Rust.Option StepsAnswer) Refusal
 measured ws n e a b =
     refused_or (first_failing (pair_checks ws n e a b)) Err
@@ -54,6 +45,13 @@ materialized ws n e a b =
 -- the counts of a list, its ceilings given
 abbrev pub counts_of : Sorts → Counts
 counts_of S = record { sorts = length S.trees; entries = max_entries - S.entries }
+
+-- What interning a sort, and what join and meet come to: the sort and the counts after it, none (with what was made on
+-- the way kept), or no room for a new sort.
+pub data Joined : Type 0 where
+  At : SortId → Counts → Joined
+  Nothing : Counts → Joined
+  Full : Joined
 
 -- What a call that makes sorts leaves: the words, and its answer. New sorts are appended in order of first making.
 pub record Stored : Type 0 where

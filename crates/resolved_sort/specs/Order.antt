@@ -6,8 +6,6 @@ use Rattle.std.specs.declared.cmp.Ordering.TheVariants.{Less, Equal as Same, Gre
 use Rattle.std.proofs.Math.Option.{Option, none, some}
 use Rattle.resolved_sort.specs.declared.Steps.{Steps as StepsAnswer}
 use Rattle.resolved_sort.specs.declared.ComplexSort.{ComplexSort}
-use Rattle.resolved_sort.specs.declared.PartialOrder.{PartialOrder}
-use Rattle.resolved_sort.specs.declared.PartialOrder.TheVariants.{Unrelated, Equal, Below, Above}
 use Rattle.resolved_sort.specs.Tree.{Flat, Tree, flat, container, function, Trees, no_args, arg, family}
 use Rattle.resolved_sort.specs.Tree.{level, family_op, level_op, same, sames}
 
@@ -42,6 +40,13 @@ unfoldable mutual
   les up no_args (arg t ts) = false
   les up (arg s ss) no_args = false
   les up (arg s ss) (arg t ts) = le up s t && les up ss ts
+
+-- How two sorts are ordered. Below: the first is below the second.
+pub data PartialOrder : Type 0 where
+  Unrelated : PartialOrder
+  Equal : PartialOrder
+  Below : PartialOrder
+  Above : PartialOrder
 
 -- the four answers, from "equal to or below" and "equal to or above"
 abbrev pub order_of : Bool → Bool → PartialOrder

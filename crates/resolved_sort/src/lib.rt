@@ -136,36 +136,11 @@ impl From<NoRoom> for Refusal {
     }
 }
 
-// How two sorts are ordered: Option<Ordering> in the Rust. Below: the first is below the second.
-#[derive(Clone, Copy, Drop)]
-pub enum PartialOrder {
-    Unrelated,
-    Equal,
-    Below,
-    Above,
-}
-
-// How far the first sort is below the second: Option<(u8, u8)> in the Rust.
-#[derive(Clone, Copy, Drop)]
-pub enum Widening {
-    Distance { head: u8, interior: u8 },
-    Nothing,
-}
-
 // How much of the sort storage is in use: rows, and argument entries.
 #[derive(Clone, Copy, Debug, PartialEq, Eq)]
 pub struct Counts {
     pub sorts: u16,
     pub entries: u16,
-}
-
-// What interning a sort, and what join and meet answer: the sort and the counts after it, none (with what was made on
-// the way kept), or no room for a new sort.
-#[derive(Clone, Copy, Drop)]
-pub enum Joined {
-    At(SortId, Counts),
-    Nothing(Counts),
-    Full,
 }
 
 // Ceilings of document 01: sorts, argument entries, and arguments of a function. Sort numbers are below SORT_NUMBERS,
@@ -189,6 +164,7 @@ pub const ENTRIES_AT: usize = 4096;
 pub const SORT_WORDS: usize = 8192;
 
 // The kinds of rows: below FIRST_CONTAINER those without a part; then containers, a function, Def and TypeVar.
+// kept: kinds are numbers, since the layout of the lent words is the C interface.
 pub const FIRST_CONTAINER: u16 = 6;
 
 pub const FUNCTION_KIND: u16 = 11;

@@ -10,8 +10,8 @@ use lib.ListN.{length, set, take, replicate, length-set}
 use lib.Seq.{length-take-le}
 use Rattle.resolved_sort.specs.declared.SortId.{SortId}
 use Rattle.resolved_sort.specs.declared.Counts.{Counts}
-use Rattle.resolved_sort.specs.declared.Joined.{Joined}
-use Rattle.resolved_sort.specs.declared.Joined.TheVariants.{At, Nothing, Full}
+use Rattle.resolved_sort.specs.Entries.{Joined}
+use Rattle.resolved_sort.specs.Entries.{At, Nothing, Full}
 use Rattle.resolved_sort.specs.Inner.Bounds.{All, Nothing as NotAll, Full as NoRoom}
 use Rattle.resolved_sort.specs.Inner.Bounds.{Domain}
 use Rattle.resolved_sort.specs.Tree.{function}

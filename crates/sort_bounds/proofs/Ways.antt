@@ -20,8 +20,8 @@ use Rattle.resolved_sort.specs.declared.NoRoom.{NoRoom}
 use Rattle.resolved_sort.specs.declared.Run.{Run}
 use Rattle.resolved_sort.specs.declared.ResolvedSort.{ResolvedSort}
 use Rattle.resolved_sort.specs.declared.ResolvedSort.TheVariants.{Function}
-use Rattle.resolved_sort.specs.declared.Joined.{Joined}
-use Rattle.resolved_sort.specs.declared.Joined.TheVariants.{At, Nothing, Full}
+use Rattle.resolved_sort.specs.Entries.{Joined}
+use Rattle.resolved_sort.specs.Entries.{At, Nothing, Full}
 use Rattle.resolved_sort.specs.Tree.{primitive, container, function as functionSort, family, level, family_op, level_op}
 use Rattle.resolved_sort.specs.Order.{le_level, bound_op}
 use Rattle.resolved_sort.specs.Interning.{look}

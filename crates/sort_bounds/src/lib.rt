@@ -9,8 +9,6 @@ ghost use Rattle.resolved_sort.specs.Rows.{left_at};
 ghost use Rattle.resolved_sort.specs.Bounds.{Asked, bound_at};
 ghost use Rattle.sort_bounds.specs.Farther.{farther};
 
-pub mod lent;
-
 use resolved_sort::{ARGUMENT_WORDS, NoRoom, ResolvedSort, SortId};
 use sort_interner::SortInterner;
 use sort_order::Graded;

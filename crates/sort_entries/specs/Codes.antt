@@ -4,8 +4,8 @@ use Rattle.entry_answers.specs.Packing.{CodeAndValues, coded_answer, AnswerWithi
 use Rattle.resolved_sort.specs.declared.Counts.{Counts}
 use Rattle.std.specs.declared.cmp.Ordering.{Ordering}
 use Rattle.std.specs.declared.cmp.Ordering.TheVariants.{Less, Equal, Greater}
-use Rattle.resolved_sort.specs.declared.Joined.{Joined}
-use Rattle.resolved_sort.specs.declared.Joined.TheVariants.{At, Nothing, Full}
+use Rattle.resolved_sort.specs.Entries.{Joined}
+use Rattle.resolved_sort.specs.Entries.{At, Nothing, Full}
 use Rattle.resolved_sort.specs.declared.Refusal.{Refusal}
 use Rattle.resolved_sort.specs.declared.Refusal.TheVariants.{SortsFull}
 use Rattle.resolved_sort.specs.declared.SortId.{SortId}

@@ -47,6 +47,7 @@ fn test_pair(
 }
 
 // The order of two sorts.
+// kept: three entries of two lines: one over a closure would say of it in a contract what each of these says in its own.
 // Ruled out: functions compared covariantly in their arguments; Bag below FBag; an answer about a
 // list that fails a check.
 pub fn partial_cmp(
@@ -210,6 +211,7 @@ fn pack_bound(bound: (Option<SortId>, Counts)) -> u64
 
 // The entries for callers in other languages: a slice is a pointer and a length, sorts are numbers,
 // and the answer is packed.
+// kept: an export for each entry, with its parameters apart, since C calls them so.
 #[unsafe(no_mangle)]
 pub extern "C" fn sort_partial_cmp(
     sorts: &[u16],
@@ -280,6 +282,7 @@ pub extern "C" fn sort_meet(
 }
 
 // The orders in bits 8 to 15 of a packed answer: 0 unrelated, 1 equal, 2 below, 3 above.
+// kept: numbers, since C is handed the packed answer.
 const PACKED_EQUAL: u64 = 256;
 
 const PACKED_BELOW: u64 = 512;

@@ -1,5 +1,6 @@
 // The entries of the sorts layer for C: the exports of `sort_entries`, each with its clauses.
 // A crate is a library of the repository or an archive for C, so the exports stand here, thinly over the crate that others use.
+// kept: each export again, with its parameters apart, since C calls them so.
 #![tactic(auto)]
 
 ghost use Rattle.std.specs.Prelude.{◌≡◌, true, false};

@@ -10,9 +10,7 @@ use borrow.Author.Tests.{lt-ltb, le-ltb, le-leb, lt-leb}
 use Rattle.std.specs.Prelude.{Option, Some, None, Ok}
 use Rattle.resolved_sort.specs.declared.SortId.{SortId}
 use Rattle.resolved_sort.specs.declared.Counts.{Counts}
-use Rattle.resolved_sort.specs.declared.Joined.{Joined}
-use Rattle.resolved_sort.specs.declared.Joined.TheVariants.{At, Full}
-use Rattle.resolved_sort.specs.Entries.{Stored}
+use Rattle.resolved_sort.specs.Entries.{At, Full}
 use Rattle.resolved_sort.specs.Storage.{function_kind, entries_at, put_row, append_row, Row}
 use Rattle.resolved_sort.specs.Rows.{stored_at, interned_at, intern_row}
 use Rattle.resolved_sort.specs.Inner.Storage.{sort_numbers}
@@ -63,7 +61,3 @@ module _ (kind : ℕ) (part : SortId) (args : List SortId) where
             → (n : Counts) → n ≡ record { sorts = k.sorts + 1; entries = k.entries + length args }
             → (id : SortId) → id.0 ≡ k.sorts → interned_at vs n (Ok id) ≡ intern_row ws k.sorts k.entries row
         interned_new l vs a n en id ei = (λ i. stored_at vs (At (record { 0 = ei i }) (en i))) ∙ stored_new l vs a
-
--- what the lent words end as is what the interner held last
-pub stored_in : {us vs : List ℕ} {r : Joined} {s : Stored} → vs ≡ us → stored_at us r ≡ s → stored_at vs r ≡ s
-stored_in {r = r} e f = ap (λ ws. stored_at ws r) e ∙ f

@@ -5,8 +5,8 @@ use Prim.Native.Nat.{ℕ, suc, ◌+◌, ◌<◌, ◌≤◌}
 use native.Mathlib.Omega.{arith}
 use native.Mathlib.Nat.{add-zero}
 use native.Mathlib.Numerals.{add-one}
-use lib.ListN.{length, get_or, take, drop, set, drop_of_length-le}
-use lib.Seq.{sets, drop-cons, get_or-take, length-take-le}
+use lib.ListN.{length, get_or, drop, set, drop_of_length-le}
+use lib.Seq.{sets, drop-cons}
 use Rattle.resolved_sort.specs.declared.SortId.{SortId}
 use Rattle.resolved_sort.specs.Inner.Storage.{sort_numbers}
 use Rattle.resolved_sort.proofs.SortNumbers.{length_sort_numbers, get_d_sort_numbers}
@@ -43,9 +43,3 @@ module _ (ws xs : List ℕ) (p i : ℕ) (whole : List ℕ) (inv : whole ≡ sets
   numbers_from_next ids q h vs e =
       given_from_next (omega (arith, ap length q, length_sort_numbers ids)) vs
       (e ∙ ap (set ws (p + i)) (get_d_sort_numbers ids i ∙ ap (λ ys. get_or ys i 0) (sym q)))
-
-  pub taken_from_next : (n : ℕ) (ids : List ℕ) → xs ≡ take n ids → n ≤ length ids → i < n → (vs : List ℕ)
-      → vs ≡ set ws (p + i) (get_or ids i 0) → whole ≡ sets_from (i + 1) vs p xs
-  taken_from_next n ids q l h vs e =
-      given_from_next (omega (arith, ap length q, length-take-le n ids l)) vs
-      (e ∙ ap (set ws (p + i)) (sym (get_or-take n ids i 0 h) ∙ ap (λ ys. get_or ys i 0) (sym q)))

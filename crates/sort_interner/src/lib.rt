@@ -16,8 +16,8 @@ ghost use Rattle.resolved_sort.specs.Interning.{look};
 ghost use Rattle.resolved_sort.specs.Bounds.{intern_at};
 
 use resolved_sort::{
-    ARGUMENT_WORDS, ComplexSort, Counts, ENTRIES_AT, FIRST_CONTAINER, FUNCTION_KIND, Joined,
-    MAX_ENTRIES, NoRoom, ROW_WORDS, ResolvedSort, Run, SORT_NUMBERS, Sort, SortId,
+    ARGUMENT_WORDS, ComplexSort, Counts, ENTRIES_AT, FIRST_CONTAINER, FUNCTION_KIND, MAX_ENTRIES,
+    NoRoom, ROW_WORDS, ResolvedSort, Run, SORT_NUMBERS, Sort, SortId,
 };
 use words::{clear, put, word};
 
@@ -97,13 +97,6 @@ pub fn get(sorts: &[u16], id: SortId) -> ResolvedSort
     let start = word(sorts, at + 2);
     let count = word(sorts, at + 3);
     row_of(kind, part, Run { start, count })
-}
-
-// The kind word of a container, for callers that do not say `u16::from`.
-pub fn kind_of_op(op: ComplexSort) -> u16
-    ensures { result ≡ kind_op op }
-{
-    u16::from(op)
 }
 
 // What 15 leaves: zero past the n rows and e entries that the call began with, and these as they are.
@@ -216,21 +209,6 @@ pub fn put_row(sorts: &mut [u16], i: u16, kind: u16, part: u16, start: u16, coun
     put(sorts, at + 1, part);
     put(sorts, at + 2, start);
     put(sorts, at + 3, count);
-}
-
-// The first n of the ids stored as the entries from e on. The rest of the ids is not stored.
-// kept: beside put_sorts, since these are places: one loop over both needs a trait for the word that each of them is.
-pub fn put_args(sorts: &mut [u16], e: u16, ids: [u16; ARGUMENT_WORDS], n: u16)
-    requires { n ≤ max_arguments }
-    ensures { sorts.new ≡ sets sorts.old (entries_at + e) (take n ids) }
-{
-    for i in 0..n {
-        put(
-            sorts,
-            ENTRIES_AT + (e as usize) + (i as usize),
-            ids[i as usize],
-        );
-    }
 }
 
 // These sorts stored as the entries from e on.
@@ -413,55 +391,4 @@ impl<'a> SortInterner<'a> {
         give_back(self.words, counts.sorts as usize, counts.entries as usize);
         self.counts = counts;
     }
-}
-
-// What interning answers, with the counts after it.
-fn joined(made: Result<SortId, NoRoom>, counts: Counts) -> Joined
-    ensures { (ws : List ℕ) → stored_at ws result ≡ interned_at ws counts made }
-{
-    match made {
-        Ok(id) => Joined::At(id, counts),
-        Err(_) => Joined::Full,
-    }
-}
-
-// Interns the container sort `op(subsort)`.
-pub fn generic(sorts: &mut [u16], counts: Counts, op: ComplexSort, subsort: SortId) -> Joined
-    requires { Checked sorts.old counts.sorts counts.entries × (subsort.0 < counts.sorts) }
-    ensures { stored_at sorts.new result
-        ≡ intern_at sorts.old counts.sorts counts.entries
-        (container op (look (trees sorts.old counts.sorts) subsort.0)) }
-{
-    let mut interner = SortInterner {
-        words: sorts,
-        counts,
-    };
-    let made = interner.generic(op, subsort);
-    joined(made, interner.counts)
-}
-
-// Interns the function sort `domain -> range`, the domain being the first count of the ids.
-pub fn function(
-    sorts: &mut [u16],
-    counts: Counts,
-    ids: [SortId; ARGUMENT_WORDS],
-    count: u16,
-    range: SortId,
-) -> Joined
-    requires { Checked sorts.old counts.sorts counts.entries
-        × (range.0 < counts.sorts)
-        × (count ≤ max_arguments)
-        × AllBelow counts.sorts (take count (sort_numbers ids)) }
-    ensures { stored_at sorts.new result
-        ≡ intern_at sorts.old counts.sorts counts.entries
-        (functionSort
-        (look_all (trees sorts.old counts.sorts) (take count (sort_numbers ids)))
-        (look (trees sorts.old counts.sorts) range.0)) }
-{
-    let mut interner = SortInterner {
-        words: sorts,
-        counts,
-    };
-    let made = interner.function(&ids[..count as usize], range);
-    joined(made, interner.counts)
 }

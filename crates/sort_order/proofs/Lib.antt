@@ -4,4 +4,3 @@ pub mod Orders
 pub mod Falls
 pub mod Distances
 pub mod Materializing
-pub mod Older

@@ -8,8 +8,6 @@ ghost use Rattle.resolved_sort.specs.Entries.{tree_at};
 ghost use Rattle.sort_order.specs.Heads.{heads_ordering, heads_steps};
 ghost use Rattle.sort_order.specs.Inner.Answers.{combined, generality};
 
-pub mod lent;
-
 use resolved_sort::{ComplexSort, ResolvedSort, Sort, SortId, Steps};
 use sort_interner::Sorts;
 use std::cmp::Ordering;

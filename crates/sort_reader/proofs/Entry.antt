@@ -13,7 +13,7 @@ use Rattle.resolved_sort.specs.declared.SortId.{SortId}
 use Rattle.resolved_sort.specs.declared.Sort as Sorts
 use Rattle.resolved_sort.specs.Checks.{Tested}
 use Rattle.std.specs.Prelude.{Some, None, Result, Ok, Err, IsErrAnd}
-use Rattle.resolved_sort.specs.declared.Joined.TheVariants.{At}
+use Rattle.resolved_sort.specs.Entries.{At}
 use Rattle.resolved_sort.specs.declared.Counts.{Counts}
 use Rattle.resolved_sort.specs.Tree.{Tree}
 use Rattle.resolved_sort.specs.Interning.{look, member, Outcome, made, nothing, full}

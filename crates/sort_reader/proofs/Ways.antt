@@ -19,8 +19,8 @@ use lib.Dec.{ltb}
 use borrow.Author.Tests.{lt-ltb, le-ltb}
 use Rattle.resolved_sort.specs.declared.SortId.{SortId}
 use Rattle.resolved_sort.specs.declared.Counts.{Counts}
-use Rattle.resolved_sort.specs.declared.Joined.{Joined}
-use Rattle.resolved_sort.specs.declared.Joined.TheVariants.{At, Nothing, Full}
+use Rattle.resolved_sort.specs.Entries.{Joined}
+use Rattle.resolved_sort.specs.Entries.{At, Nothing, Full}
 use Rattle.resolved_sort.specs.Tree.{Tree, container, function, Trees, no_args, arg}
 use Rattle.resolved_sort.specs.Interning.{Sorts, look, member, need, made, nothing, ◌then◌, intern}
 use Rattle.resolved_sort.specs.Storage.{max_entries, trees, look_all, sorts_of}

@@ -3,8 +3,8 @@ use Rattle.std.specs.Prelude.{Bool, List, [], ◌∷◌, ◌++◌, ℕ, ◌-◌,
 use Rattle.resolved_sort.specs.declared.Refusal.TheVariants.{TooShort, LongLine}
 use Rattle.resolved_sort.specs.declared.SortId.{SortId}
 use Rattle.resolved_sort.specs.declared.Counts.{Counts}
-use Rattle.resolved_sort.specs.declared.Joined.{Joined}
-use Rattle.resolved_sort.specs.declared.Joined.TheVariants.{At, Nothing, Full}
+use Rattle.resolved_sort.specs.Entries.{Joined}
+use Rattle.resolved_sort.specs.Entries.{At, Nothing, Full}
 use Rattle.resolved_sort.specs.Tree.{Tree, flat, container, function, Trees, no_args, arg}
 use Rattle.resolved_sort.specs.Interning.{Sorts, Outcome, made, ◌then◌, intern}
 use Rattle.resolved_sort.specs.Storage.{sorts_of, given_back}

@@ -8,7 +8,7 @@ use Prim.Native.Nat.{ℕ, ◌<◌}
 use native.Mathlib.Omega.{arith}
 use Rattle.resolved_sort.specs.declared.SortId.{SortId}
 use Rattle.resolved_sort.specs.declared.Counts.{Counts}
-use Rattle.resolved_sort.specs.declared.Joined.TheVariants.{At, Nothing as NotFound, Full}
+use Rattle.resolved_sort.specs.Entries.{At, Nothing as NotFound, Full}
 use Rattle.resolved_sort.specs.Tree.{Tree}
 use Rattle.resolved_sort.specs.Interning.{Sorts, look, nothing, full}
 use Rattle.resolved_sort.specs.Storage.{trees, sorts_of}

@@ -1,8 +1,8 @@
 -- What only contracts of inner functions cite, beside `specs/Resolve.antt`.
 use Rattle.std.specs.Prelude.{List, ℕ, Some, None}
 use Rattle.resolved_sort.specs.declared.Counts.{Counts}
-use Rattle.resolved_sort.specs.declared.Joined.{Joined}
-use Rattle.resolved_sort.specs.declared.Joined.TheVariants.{At, Nothing as NotFound}
+use Rattle.resolved_sort.specs.Entries.{Joined}
+use Rattle.resolved_sort.specs.Entries.{At, Nothing as NotFound}
 use Rattle.unification.specs.declared.Lengths.{Lengths}
 use Rattle.unification.specs.Default.{Default}
 use Rattle.unification.specs.Term.{Term}

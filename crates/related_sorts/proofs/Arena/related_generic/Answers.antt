@@ -1,6 +1,6 @@
 -- The related container is interned, if there is one. Assumes nothing.
 use Rattle.std.proofs.Common.{rules, refl}
-use Rattle.resolved_sort.specs.declared.Joined.TheVariants.{At, Full}
+use Rattle.resolved_sort.specs.Entries.{At, Full}
 use Rattle.related_sorts.proofs.Laws as law
 use Rattle.related_sorts.proofs.Arena.related_generic.Goals as goal
 
