@@ -26,7 +26,7 @@ use Rattle.inference.proofs.Accepted.{passed_is_searched}
 use Rattle.inference.proofs.Members.{not_in_nothing, in_all, all_weaker}
 use Rattle.inference.proofs.Measures.{compare_self, equal_are_one, smaller_is_at_most, at_most_self}
 use Rattle.inference.proofs.Measures.{smaller_below, at_most_each_other_are_one, greater_mirrored}
-use Rattle.inference.specs.Leaves.{measure_met, history, once, times, Least, met_of, leaves_met, code_of, ByLeaves}
+use Rattle.inference.specs.Leaves.{measure_met, history, once, times, Least, met_of, leaves_met, code_left, ByLeaves}
 use Rattle.inference.proofs.Forgets.{history_has_the_verdict}
 use Rattle.inference.proofs.Branches.{newcomer, Goes, leaf_goes, search_goes}
 
@@ -223,7 +223,7 @@ module _ (I : Call) (W : Lent) (ms : List Components) where
 
 -- a search from no incumbent
 searched_by_leaves : (I : Call) (w : World (List Components)) → Kept w.best w.met → (o : Out (List Components))
-    → Goes Went w o → (code_of (verdict I o) ≡ 15 → ⊥) → (code_of (verdict I o) ≡ 16 → ⊥)
+    → Goes Went w o → (code_left (verdict I o) ≡ 15 → ⊥) → (code_left (verdict I o) ≡ 16 → ⊥)
     → ByLeaves I (verdict I o) (met_of o)
 unfolding Goes code_solved room_refusal code_of_refusal
 searched_by_leaves I w k (found v) x f s = judged_by_leaves I v.lent v.met v.best (x.kept k)
@@ -231,12 +231,12 @@ searched_by_leaves I w k (missed v) x f s = judged_by_leaves I v.lent v.met v.be
 searched_by_leaves I w k (ended c W) (inl i) f s = absurd (f (ap (λ n. code_of_refusal (room_refusal n)) i))
 searched_by_leaves I w k (ended c W) (inr i) f s = absurd (s (ap (λ n. code_of_refusal (room_refusal n)) i))
 
-pub verdict_by_leaves : (I : Call) → first_failing (solve_checks I) ≡ Ok tt → (code_of (solve_entry I) ≡ 15 → ⊥)
-    → (code_of (solve_entry I) ≡ 16 → ⊥) → ByLeaves I (solve_entry I) (leaves_met I)
+pub verdict_by_leaves : (I : Call) → first_failing (solve_checks I) ≡ Ok tt → (code_left (solve_entry I) ≡ 15 → ⊥)
+    → (code_left (solve_entry I) ≡ 16 → ⊥) → ByLeaves I (solve_entry I) (leaves_met I)
 unfolding Kept
 verdict_by_leaves I e f s =
     let i = passed_is_searched I e ∙ sym (history_has_the_verdict I) in
     subst (λ left. ByLeaves I left (leaves_met I)) (sym i)
     (searched_by_leaves I (record { lent = lent_of I; best = none; met = [] }) refl (history I)
     (search_meets (problem_of I) (given I) (start_path I) (record { lent = lent_of I; best = none; met = [] }))
-    (λ q. f (ap code_of i ∙ q)) (λ q. s (ap code_of i ∙ q)))
+    (λ q. f (ap code_left i ∙ q)) (λ q. s (ap code_left i ∙ q)))

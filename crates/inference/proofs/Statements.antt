@@ -46,7 +46,7 @@ use Rattle.inference.specs.SolveEntry.{Solved, problem_of, base_names_of, lent_o
 use Rattle.inference.specs.SolveEntry.{code_solved, measure_out, choices_out, TypingOr15}
 use Rattle.inference.specs.Explained.{Explained}
 use Rattle.inference.specs.Named.{expr_of, choice, Named}
-use Rattle.inference.specs.Leaves.{once, times, Least, met_of, code_of, HandsOut, ByLeaves}
+use Rattle.inference.specs.Leaves.{once, times, Least, met_of, code_left, HandsOut, ByLeaves}
 use Rattle.inference.specs.ListsLeft.{counts_told, SortsGrown, ListsKept, Ends}
 use Rattle.inference.proofs.Members.{in_all}
 use Rattle.inference.proofs.Measures.{compare_self, equal_are_one}
@@ -171,11 +171,11 @@ none_counted_in_none m = refl
 
 -- The verdict: without a leaf 17; with a least measure 0 or 18, by how often it was met, and under 0 it is the measure that is read.
 pub verdict_says : (I : Call) (L : SolveLeft) (ms : List Components) → ByLeaves I L ms
-    → ((code_of L ≡ 17) ↔ (ms ≡ []))
-    × ((m : Components) → Least m ms → (times m ms ≡ 1 → code_of L ≡ 0) × (1 < times m ms → code_of L ≡ 18))
+    → ((code_left L ≡ 17) ↔ (ms ≡ []))
+    × ((m : Components) → Least m ms → (times m ms ≡ 1 → code_left L ≡ 0) × (1 < times m ms → code_left L ≡ 18))
     × ((m : Components) (o : Outputs) → Least m ms → L.answer ≡ Ok (Typing o) → measure_out L o ≡ m)
-    × (code_of L ≡ 0 → (m : Components) × Least m ms × (times m ms ≡ 1))
-    × (code_of L ≡ 18 → (m : Components) × Least m ms × (1 < times m ms))
+    × (code_left L ≡ 0 → (m : Components) × Least m ms × (times m ms ≡ 1))
+    × (code_left L ≡ 18 → (m : Components) × Least m ms × (1 < times m ms))
 unfolding code_solved
 verdict_says I L ms b = (
   b.none_met,
@@ -193,7 +193,7 @@ pub no_leaf_told_without_room : (c : ℕ) (W : Lent) → met_of (ended c W) ≡ 
 no_leaf_told_without_room c W = refl
 
 -- "A refusal names the first failing check"
-pub refused_with_the_first_failing : (I : Call) (c : Refusal) → first_failing (solve_checks I) ≡ Err c → code_of (solve_entry I) ≡ code_of_refusal c
+pub refused_with_the_first_failing : (I : Call) (c : Refusal) → first_failing (solve_checks I) ≡ Err c → code_left (solve_entry I) ≡ code_of_refusal c
 unfolding solve_entry code_solved
 refused_with_the_first_failing I c e = rw e refl
 

@@ -42,8 +42,8 @@ met_of (ended c W) = []
 abbrev pub leaves_met : Call → List Components
 leaves_met I = met_of (history I)
 
-abbrev pub code_of : SolveLeft → ℕ
-code_of left = code_solved left.answer
+abbrev pub code_left : SolveLeft → ℕ
+code_left left = code_solved left.answer
 
 -- m is handed out as the measure
 pub record HandsOut (I : Call) (left : SolveLeft) (m : Components) : Type 0 where
@@ -54,7 +54,7 @@ pub record HandsOut (I : Call) (left : SolveLeft) (m : Components) : Type 0 wher
 
 -- the verdict by the leaves met
 pub record ByLeaves (I : Call) (left : SolveLeft) (ms : List Components) : Type 0 where
-  pub none_met : (code_of left ≡ 17) ↔ (ms ≡ [])
-  pub least_met_often : (code_of left ≡ 18) ↔ ((m : Components) × Least m ms × (1 < times m ms))
-  pub least_met_once : (code_of left ≡ 0) ↔ ((m : Components) × Least m ms × (times m ms ≡ 1))
-  pub least_handed_out : code_of left ≡ 0 → (m : Components) → Least m ms → HandsOut I left m
+  pub none_met : (code_left left ≡ 17) ↔ (ms ≡ [])
+  pub least_met_often : (code_left left ≡ 18) ↔ ((m : Components) × Least m ms × (1 < times m ms))
+  pub least_met_once : (code_left left ≡ 0) ↔ ((m : Components) × Least m ms × (times m ms ≡ 1))
+  pub least_handed_out : code_left left ≡ 0 → (m : Components) → Least m ms → HandsOut I left m

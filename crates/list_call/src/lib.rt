@@ -50,7 +50,7 @@ pub fn count_of(list: &[u16], table: Table) -> u16
 }
 
 // The counts of the call, and the default sort.
-pub fn given_of(list: &[u16]) -> Given
+pub fn given_in(list: &[u16]) -> Given
     ensures { result ≡ given_in list.now }
 {
     Given {

@@ -10,7 +10,7 @@ ghost use Rattle.solve_outputs.specs.Handout.{SameHandout};
 ghost use Rattle.list_solve.specs.Inner.Asked.{list_answer, list_answer_of};
 
 use inference::{SCRATCH_WORDS, Verdict};
-use list_call::{copied, given_of, length_of, rows_given, solve_list};
+use list_call::{copied, given_in, length_of, rows_given, solve_list};
 use list_memory::{LIST_BINDS_AT, LIST_NODES_AT, LIST_SCRATCH_AT, Slice, Table};
 use resolved_sort::Refusal;
 use solve_outputs::Handout;
@@ -34,7 +34,7 @@ pub fn ask(list: &[u16], sorts: &mut [u16], handout: &mut Handout<'_>) -> Result
     let scratch_end = length_of(list, Slice::Scratch, SCRATCH_WORDS, SCRATCH_WORDS);
     solve_list(
         list,
-        given_of(list),
+        given_in(list),
         sorts,
         &mut nodes[..nodes_end],
         &mut binds[..binds_end],

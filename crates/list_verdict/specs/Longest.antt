@@ -10,8 +10,8 @@ most_decimal = 5
 abbrev pub most_name : ℕ
 most_name = 1 + most_decimal
 
-abbrev pub most_word : ℕ
-most_word = 7
+abbrev pub most_kind_word : ℕ
+most_kind_word = 7
 
 abbrev pub most_message : ℕ
 most_message = 120
@@ -40,7 +40,7 @@ most_choices_line k = 8 + (4 + k * most_choice + 1)
 
 -- `new s6 fn Bool s6 -> Nat`
 abbrev pub most_new_line : ℕ
-most_new_line = 4 + (most_name + (1 + (most_word + (max_arguments * (1 + most_word) + (4 + most_word) + 1))))
+most_new_line = 4 + (most_name + (1 + (most_kind_word + (max_arguments * (1 + most_kind_word) + (4 + most_kind_word) + 1))))
 
 -- a typing of x expressions, with m components and k choices
 abbrev pub most_typing : ℕ → ℕ → ℕ → ℕ

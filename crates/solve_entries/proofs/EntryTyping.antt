@@ -27,7 +27,7 @@ use Rattle.inference.specs.SolveEntry.{Solved, SolveLeft, problem_of, lent_of, n
 use Rattle.inference.specs.Typing.{In, HoldsTogether}
 use Rattle.inference.specs.Explained.{Explained}
 use Rattle.inference.specs.Named.{Named}
-use Rattle.inference.specs.Leaves.{times, Least, leaves_met, code_of, ByLeaves}
+use Rattle.inference.specs.Leaves.{times, Least, leaves_met, code_left, ByLeaves}
 use Rattle.inference.specs.ListsLeft.{counts_told, SortsGrown}
 use Rattle.inference.proofs.Members.{not_in_nothing}
 use Rattle.inference.proofs.LeavesMet.{least_is_one}
@@ -74,7 +74,7 @@ module _ (I : Call) (L : SolveLeft) (s : EntrySays I L) where
       go (Ok (Typing o)) x = inl (o, refl)
 
   -- The verdict of a call that passes its checks and has room is by its leaves.
-  pub entry_by_leaves : first_failing (solve_checks I) ≡ Ok tt → (code_of L ≡ 15 → ⊥) → (code_of L ≡ 16 → ⊥) → ByLeaves I L (leaves_met I)
+  pub entry_by_leaves : first_failing (solve_checks I) ≡ Ok tt → (code_left L ≡ 15 → ⊥) → (code_left L ≡ 16 → ⊥) → ByLeaves I L (leaves_met I)
   unfolding code_solved code_of_refusal
   entry_by_leaves f n m = go L.answer refl s
     where
@@ -136,7 +136,7 @@ module _ (I : Call) (L : SolveLeft) (s : EntrySays I L) where
       go (Ok (Ambiguous k)) x = x.searched.memory.binds
       go (Ok (Typing o)) x = x.searched.memory.binds
 
-  pub outputs_under_0_only : (code_of L ≡ 0 → ⊥) → (L.typing ≡ I.typing) × (L.measure ≡ I.measure) × (L.choices ≡ I.choices)
+  pub outputs_under_0_only : (code_left L ≡ 0 → ⊥) → (L.typing ≡ I.typing) × (L.measure ≡ I.measure) × (L.choices ≡ I.choices)
   unfolding code_solved
   outputs_under_0_only n = go L.answer refl s
     where
@@ -173,7 +173,7 @@ module _ (I : Call) where
   Tells (Ok (Ambiguous k)) = (first_failing (solve_checks I) ≡ Ok tt) × ((m : Components) × Least m (leaves_met I) × (1 < times m (leaves_met I)))
   Tells (Ok (Typing o)) = (first_failing (solve_checks I) ≡ Ok tt) × ((m : Components) × Least m (leaves_met I) × (times m (leaves_met I) ≡ 1))
 
-  tells : (L : SolveLeft) → EntrySays I L → (code_of L ≡ 15 → ⊥) → (code_of L ≡ 16 → ⊥) → Tells L.answer
+  tells : (L : SolveLeft) → EntrySays I L → (code_left L ≡ 15 → ⊥) → (code_left L ≡ 16 → ⊥) → Tells L.answer
   unfolding code_solved code_of_refusal
   tells L s n m = go L.answer refl s
     where
@@ -214,8 +214,8 @@ module _ (I : Call) where
   one_code (Ok (Typing o)) (Ok (Typing p)) x y = refl
 
   -- a call that has room has one verdict, and a typing one measure
-  pub one_verdict : (L M : SolveLeft) → EntrySays I L → EntrySays I M → (code_of L ≡ 15 → ⊥) → (code_of L ≡ 16 → ⊥)
-      → (code_of M ≡ 15 → ⊥) → (code_of M ≡ 16 → ⊥) → code_of L ≡ code_of M
+  pub one_verdict : (L M : SolveLeft) → EntrySays I L → EntrySays I M → (code_left L ≡ 15 → ⊥) → (code_left L ≡ 16 → ⊥)
+      → (code_left M ≡ 15 → ⊥) → (code_left M ≡ 16 → ⊥) → code_left L ≡ code_left M
   one_verdict L M s t a b c d = one_code L.answer M.answer (tells L s a b) (tells M t c d)
 
   pub one_measure : (L M : SolveLeft) (o p : Outputs) → SaysTyping I L o → SaysTyping I M p → measure_out L o ≡ measure_out M p

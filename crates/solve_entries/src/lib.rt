@@ -13,7 +13,7 @@ ghost use Rattle.solve_outputs.specs.Inner.Begin.{nothing_taken};
 ghost use Rattle.solve_checks.specs.Call.{call_of};
 ghost use Rattle.solve_outputs.specs.Handout.{call_with, solve_left_with, SameHandout};
 ghost use Rattle.solve_outputs.specs.Inner.Finish.{solve_left_by, SortsReturnable, NodesReturnable};
-ghost use Rattle.solve_outputs.specs.Inner.Handing.{names_in, left_in, CanHandOut};
+ghost use Rattle.solve_outputs.specs.Inner.Handing.{names_read, left_in, CanHandOut};
 ghost use Rattle.solve_outputs.specs.Packed.{packed_solve, pack_solve_left};
 ghost use Rattle.solve_entries.specs.Given.{given_of};
 ghost use Rattle.solve_entries.specs.Inner.Searched.{settled_from};
@@ -33,7 +33,7 @@ fn run(
     requires { Searching search.old nothing_taken 0 [] (Solve 0) × CanHandOut search.old handout.old }
     ensures says { left_in result search.new handout.new
         ≡ solve_left_by search.old.lengths search.old.nodes.now search.old.binds.now search.old.scratch.now
-        (settled_from search.old (names_in names.now.words.now names.now.count) handout.old) }
+        (settled_from search.old (names_read names.now.words.now names.now.count) handout.old) }
     ensures same_problem { SameProblem search.old search.new }
     ensures same_handout { SameHandout handout.old handout.new }
 {

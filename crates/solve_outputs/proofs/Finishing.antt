@@ -33,7 +33,7 @@ use Rattle.solve_checks.specs.Inner.Calls.{call_for, constraint_rows}
 use Rattle.solve_outputs.specs.Inner.Begin.{sizes_of}
 use Rattle.solve_outputs.specs.declared.Handout.{Handout}
 use Rattle.solve_outputs.specs.Inner.Finish.{Answered, answered, settled, solve_left_by, handed_out, Handable}
-use Rattle.solve_outputs.specs.Inner.Handing.{counts_of, told_in, left_in, handing, judging, settling, tidied}
+use Rattle.solve_outputs.specs.Inner.Handing.{counts_then, told_in, left_in, handing, judging, settling, tidied}
 
 pub sizes_counted : (p : Problem) (n d : ℕ) → n ≡ components (constraint_rows p.constraints.now p.given.constraints)
     → d ≡ length (disjunctions (constraint_rows p.constraints.now p.given.constraints))
@@ -99,7 +99,7 @@ module _ (sc ls : List ℕ) (names : List BaseName) (z : Sizes) (ts ms hs : List
       }
 
 -- by whether there is an incumbent, and whether it is tied
-module _ (s : Search) (names : List BaseName) (h : Handout) (k : Counts) (e : k ≡ counts_of s) where
+module _ (s : Search) (names : List BaseName) (h : Handout) (k : Counts) (e : k ≡ counts_then s) where
   pub no_incumbent : s.best ≡ None → told_in (Ok (NoTyping k)) h ≡ judging s names h
   unfolding best_of
   no_incumbent b = rw b (ap (λ k. told_in (Ok (NoTyping k)) h) e)

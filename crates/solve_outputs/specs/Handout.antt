@@ -16,12 +16,12 @@ abbrev pub solve_left_with : Solved → (sorts nodes binds scratch : List ℕ) �
 solve_left_with r ws ns bs sc h = solve_left r ws ns bs sc h.typing.now h.measure.now h.choices.now
 
 -- What is lent for the outputs, each part by its ghost name: no call changes it.
-pub record Lent : Type 0 where
+pub record LentOutputs : Type 0 where
   pub typing : ℕ
   pub measure : ℕ
   pub choices : ℕ
 
-abbrev pub lent_for : Handout → Lent
+abbrev pub lent_for : Handout → LentOutputs
 lent_for h =
     record { typing = h.typing.ghost_name; measure = h.measure.ghost_name; choices = h.choices.ghost_name }
 

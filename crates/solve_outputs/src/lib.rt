@@ -26,7 +26,7 @@ ghost use Rattle.solve_outputs.specs.Inner.Begin.{CountsFit, RowsFit, sizes_of, 
 ghost use Rattle.solve_outputs.specs.Packed.{pack_solved, CountsWithin, VerdictWithin, SolvedWithin};
 ghost use Rattle.solve_outputs.specs.Inner.Counts.{pack_counts};
 ghost use Rattle.solve_outputs.specs.Inner.Finish.{solve_left_by, settled, SortsReturnable, NodesReturnable};
-ghost use Rattle.solve_outputs.specs.Inner.Handing.{names_in, told_in, left_in, handing, judging, settling, tidied};
+ghost use Rattle.solve_outputs.specs.Inner.Handing.{names_read, told_in, left_in, handing, judging, settling, tidied};
 ghost use Rattle.solve_outputs.specs.Inner.Handing.{CanHandOut};
 ghost use Rattle.solve_outputs.specs.Handout.{SameHandout};
 
@@ -128,6 +128,7 @@ fn write_choices(choices: &mut [u16], search: &Search<'_>)
 }
 
 // The kind and the sort of a name, as they are handed out. Only an operation has a sort.
+// kept: kinds are numbers, since the layout of what is handed out is the C interface.
 fn name_words(name: NameTarget) -> (u16, u16)
     ensures { result ≡ (name_kind (some name), name_sort (some name)) }
 {
@@ -166,7 +167,7 @@ fn write_sorts(typing: &mut [u16], scratch: &[u16], exprs: u16)
 
 // The base names, from the last to the first.
 fn write_base_names(typing: &mut [u16], names: &BaseNames<'_>, exprs: u16)
-    ensures { typing.new ≡ base_named exprs (names_in names.now.words.now names.now.count) typing.old }
+    ensures { typing.new ≡ base_named exprs (names_read names.now.words.now names.now.count) typing.old }
 {
     for i in (0..names.count).rev() {
         let row = NAME_WORDS * i;
@@ -237,7 +238,7 @@ fn write_typing(typing: &mut [u16], search: &Search<'_>, names: &BaseNames<'_>)
         × (typing_words * search.now.sizes.exprs ≤ length typing.old)
         × (scratch_used ≤ length search.now.scratch.now) }
     ensures { typing.new
-        ≡ written_over (typing_rows (problem_in search.now.lists.now search.now.sizes) (names_in names.now.words.now names.now.count)
+        ≡ written_over (typing_rows (problem_in search.now.lists.now search.now.sizes) (names_read names.now.words.now names.now.count)
         (choices_of (chosen_exprs search.now.lists.now search.now.sizes)
         (part best_choices_at search.now.sizes.disjunctions search.now.scratch.now))
         0 (part best_sorts_at search.now.sizes.exprs search.now.scratch.now))
@@ -296,7 +297,7 @@ pub fn nothing_taken() -> Branch
 // Hands the incumbent out.
 fn hand_out(handout: &mut Handout<'_>, search: &Search<'_>, names: &BaseNames<'_>) -> Outputs
     requires { CanHandOut search.now handout.old }
-    ensures says { told_in (Ok (Typing result)) handout.new ≡ handing search.now (names_in names.now.words.now names.now.count) handout.old }
+    ensures says { told_in (Ok (Typing result)) handout.new ≡ handing search.now (names_read names.now.words.now names.now.count) handout.old }
     ensures same_reference { SameHandout handout.old handout.new }
 {
     write_typing(handout.typing, search, names);
@@ -312,7 +313,7 @@ fn hand_out(handout: &mut Handout<'_>, search: &Search<'_>, names: &BaseNames<'_
 // The verdict of a search that had room: by whether there is an incumbent, and whether it is tied.
 fn judge(handout: &mut Handout<'_>, search: &Search<'_>, names: &BaseNames<'_>) -> Verdict
     requires { CanHandOut search.now handout.old }
-    ensures says { told_in (Ok result) handout.new ≡ judging search.now (names_in names.now.words.now names.now.count) handout.old }
+    ensures says { told_in (Ok result) handout.new ≡ judging search.now (names_read names.now.words.now names.now.count) handout.old }
     ensures same_reference { SameHandout handout.old handout.new }
 {
     let counts = counts_of(search.lengths);
@@ -335,7 +336,7 @@ fn settle(
 ) -> Result<Verdict, Refusal>
     requires { CanHandOut search.old handout.old × SortsReturnable search.old.sorts.now entry }
     ensures says { settled search.new.sorts.now (told_in result handout.new)
-        ≡ settling search.old (names_in names.now.words.now names.now.count) handout.old entry found }
+        ≡ settling search.old (names_read names.now.words.now names.now.count) handout.old entry found }
     ensures kept { OnlySorts search.old search.new }
     ensures same_reference { SameHandout handout.old handout.new }
 {
@@ -370,7 +371,7 @@ pub fn finish(
         × NodesReturnable search.old.nodes.now entry }
     ensures says { left_in result search.new handout.new
         ≡ solve_left_by entry search.old.nodes.now search.old.binds.now search.old.scratch.now
-        (settling search.old (names_in names.now.words.now names.now.count) handout.old entry found) }
+        (settling search.old (names_read names.now.words.now names.now.count) handout.old entry found) }
     ensures same_problem { SameProblem search.old search.new }
     ensures same_handout { SameHandout handout.old handout.new }
 {

@@ -23,7 +23,8 @@ use unification::InferSortId;
 use words::put;
 
 // What a name resolved to, as the caller says it: kind 1 a variable, 2 an operation with its sort, 3 a built-in. Any
-// other kind is refused with 9, so the kind is a word: of an enum such a word would be no value.
+// other kind is refused with 9.
+// kept: the kind is a word, since a caller in C may hand in any; of an enum such a word would be no value.
 #[repr(C)]
 #[derive(Clone, Copy, Drop)]
 pub struct TargetRecord {
@@ -87,7 +88,7 @@ fn unpack(records: &[OverloadRecord]) -> [u16; UNPACKED_WORDS]
 fn at_most(n: usize) -> usize
     ensures { result ≡ min max_overloads n }
 {
-    if MAX_OVERLOADS < n { MAX_OVERLOADS } else { n }
+    MAX_OVERLOADS.min(n)
 }
 
 // The core on the words of n records, in place of the overloads of the problem.

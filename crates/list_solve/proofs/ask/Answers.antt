@@ -19,7 +19,7 @@ slice_bounds-solve_list-end-3 c =
 pub returns-clause-says : goal.returns-clause-says
 returns-clause-says c =
     let ws = c.args.list.now in
-    law.asked_alone ws _ _ _ _ _ _ _ _ c.given_of.ensures
+    law.asked_alone ws _ _ _ _ _ _ _ _ c.given_in.ensures
     (list.front_lent ws 8192 12288 _ (omega arith) c.copied-nodes.ensures _ _ _ c.length_of-nodes_end.ensures.0 c.length_of-nodes_end.ensures.1)
     (list.rows_lent ws _ 20480 2 4 512 _
     (list.front_lent ws 20480 512 _ (omega arith) c.copied-binds.ensures _ _ _ c.length_of-binds_end.ensures.0 c.length_of-binds_end.ensures.1)

@@ -9,7 +9,7 @@ use Rattle.search_state.specs.Inner.Solving.{state_of}
 use Rattle.solve_outputs.specs.declared.Handout.{Handout}
 use Rattle.solve_outputs.specs.Inner.Begin.{nothing_taken}
 use Rattle.solve_outputs.specs.Inner.Finish.{Settled, settled_by}
-use Rattle.solve_outputs.specs.Inner.Handing.{problem_of}
+use Rattle.solve_outputs.specs.Inner.Handing.{problem_asked}
 
 abbrev pub comes_to : Search → Out (Unit {0})
 comes_to s =
@@ -19,4 +19,4 @@ comes_to s =
 
 abbrev pub settled_from : Search → List BaseName → Handout → Settled
 settled_from s names h =
-    settled_by (problem_of s) names h.typing.now h.measure.now h.choices.now s.lengths (comes_to s)
+    settled_by (problem_asked s) names h.typing.now h.measure.now h.choices.now s.lengths (comes_to s)

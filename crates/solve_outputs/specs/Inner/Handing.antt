@@ -14,22 +14,22 @@ use Rattle.solve_outputs.specs.declared.Handout.{Handout}
 use Rattle.solve_outputs.specs.Handout.{solve_left_with}
 use Rattle.solve_outputs.specs.Inner.Finish.{Answered, answered, Settled, handed_out, judged_out, settled_by, Handable}
 
-abbrev pub names_in : List ℕ → ℕ → List BaseName
-names_in ks n = rows_from (base_name_at ks) 0 n
+abbrev pub names_read : List ℕ → ℕ → List BaseName
+names_read ks n = rows_from (base_name_at ks) 0 n
 
-abbrev pub problem_of : Search → Problem
-problem_of s = problem_in s.lists.now s.sizes
+abbrev pub problem_asked : Search → Problem
+problem_asked s = problem_in s.lists.now s.sizes
 
-abbrev pub counts_of : Search → Counts
-counts_of s = record { sorts = s.lengths.sorts; entries = s.lengths.entries }
+abbrev pub counts_then : Search → Counts
+counts_then s = record { sorts = s.lengths.sorts; entries = s.lengths.entries }
 
 -- the incumbent
 abbrev pub best_in : Search → Option Candidate
 best_in s = best_of s.lists.now s.sizes s.scratch.now (has_best s.best) (is_tied s.best)
 
 -- what the search answered and left
-abbrev pub came_to : Search → Result Bool Full → Out (Unit {0})
-came_to s r = out_of s.lists.now s.sizes s.sorts.now s.nodes.now s.scratch.now (answer_of (state_of s) r)
+abbrev pub out_in : Search → Result Bool Full → Out (Unit {0})
+out_in s r = out_of s.lists.now s.sizes s.sorts.now s.nodes.now s.scratch.now (answer_of (state_of s) r)
 
 -- an answer with what was handed out, and with all lent memory
 abbrev pub told_in : Solved → Handout → Answered
@@ -41,16 +41,16 @@ left_in r s h = solve_left_with r s.sorts.now s.nodes.now s.binds.now s.scratch.
 -- the incumbent handed out, the verdict of a search that had room, and the answer of any search
 abbrev pub handing : Search → List BaseName → Handout → Answered
 handing s names h =
-    handed_out (problem_of s) names h.typing.now h.measure.now h.choices.now (counts_of s)
+    handed_out (problem_asked s) names h.typing.now h.measure.now h.choices.now (counts_then s)
     (candidate_of s.lists.now s.sizes s.scratch.now false)
 
 abbrev pub judging : Search → List BaseName → Handout → Answered
 judging s names h =
-    judged_out (problem_of s) names h.typing.now h.measure.now h.choices.now (counts_of s) (best_in s)
+    judged_out (problem_asked s) names h.typing.now h.measure.now h.choices.now (counts_then s) (best_in s)
 
 abbrev pub settling : Search → List BaseName → Handout → Lengths → Result Bool Full → Settled
 settling s names h k r =
-    settled_by (problem_of s) names h.typing.now h.measure.now h.choices.now k (came_to s r)
+    settled_by (problem_asked s) names h.typing.now h.measure.now h.choices.now k (out_in s r)
 
 -- no nodes but those that the call began with, and nothing in the scratch
 abbrev pub tidied : Lengths → Search → Search

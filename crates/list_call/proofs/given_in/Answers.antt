@@ -1,7 +1,7 @@
 -- Each count by its call. Assumes nothing.
 use Rattle.std.proofs.Common.{refl}
 use Rattle.list_call.proofs.Asked as law
-use Rattle.list_call.proofs.given_of.Goals as goal
+use Rattle.list_call.proofs.given_in.Goals as goal
 
 pub returns : goal.returns
 returns c =
