@@ -19,7 +19,6 @@ use Rattle.resolved_sort.proofs.Reached.{no_confusion}
 use Rattle.resolved_sort.proofs.Trees.{length_trees}
 use Rattle.sort_text.specs.Text.{writable, text}
 use Rattle.sort_writer.specs.Inner.Sizes.{most_size, size_if, sized, sizes_to, row_size}
-use Rattle.sort_writer.specs.Inner.Puts.{SortRoom}
 use Rattle.text_out.specs.Put.{Put}
 use Rattle.sort_writer.proofs.Sizes.{capped_short, capped_long, text_some}
 use Rattle.sort_writer.proofs.Fills.{sizes_right}
@@ -97,11 +96,7 @@ module _ (ws : List ℕ) (k : Counts) (zs : List ℕ) (s : ℕ) (q : SizesOf ws 
         ∙ sym (size_none (writable (tree_at ws k.sorts s)) _ (text_some (tree_at ws k.sorts s)) (omega (arith, size_is size e, h)))
 
   module _ (e : short (tree_at ws k.sorts s) ≡ true) where
-    fits : length (text (tree_at ws k.sorts s)) ≤ 200
-    unfolding short
-    fits = leb-true (length (text (tree_at ws k.sorts s))) 200 ((and-eq-true_iff (writable (tree_at ws k.sorts s)) (leb (length (text (tree_at ws k.sorts s))) 200)).0 e).1
-
-    below : s < k.sorts
+    pub below : s < k.sorts
     unfolding short writable look
     below = go (dec_le k.sorts s)
       where
@@ -111,18 +106,6 @@ module _ (ws : List ℕ) (k : Counts) (zs : List ℕ) (s : ℕ) (q : SizesOf ws 
             no_confusion cc
         go (no p) = omega arith
 
-    pub has_room : (buf : List ℕ) → length buf ≡ 200 → SortRoom ws k.sorts k.entries s buf 0
-    has_room buf l = record { checked = q.checked; below = below; room = omega (arith, fits, l) }
-
-    module _ (buf : List ℕ) (l : length buf ≡ 200) (left : List ℕ) (end : ℕ) (p : Put buf 0 (text (tree_at ws k.sorts s)) left end) where
-      pub text_ends : end ≤ length left
-      text_ends = omega (arith, fits, p.behind, ap length p.bytes, length-sets buf 0 (text (tree_at ws k.sorts s)), l)
-
-      pub text_length : end ≡ length (take end left)
-      text_length = sym (length-take-le end left text_ends)
-
-      pub whole_text : take end left ≡ sort_text ws k.sorts s
-      unfolding sort_text
-      whole_text =
-          ap (take end) (p.bytes ∙ sets-eq (text (tree_at ws k.sorts s)) buf 0 (omega (arith, fits, l)))
-          ∙ (take_at (text (tree_at ws k.sorts s)) _ end (omega (arith, p.behind)) ∙ rw e)
+    pub is_text : text (tree_at ws k.sorts s) ≡ sort_text ws k.sorts s
+    unfolding sort_text
+    is_text = rw e

@@ -19,7 +19,7 @@ use inference::{ExprId, Verdict};
 use resolved_sort::{ENTRIES_AT, MAX_SORTS, Refusal, ResolvedSort, Run, SortId};
 use sort_interner::{Sorts, get};
 use sort_text::{MAX_LINE, op_word, sort_word};
-use sort_writer::{fill_sizes, put_sort, size_at};
+use sort_writer::{fill_sizes, put_text, size_at};
 use text_out::Out;
 use words::word;
 
@@ -262,15 +262,13 @@ impl SortTexts<'_> {
         0 < size && size <= MAX_LINE
     }
 
-    // A sort in mCRL2 spelling, by way of a text of its own; its number where it has none, or one above MAX_LINE bytes.
+    // A sort in mCRL2 spelling; its number where it has no text, or one above MAX_LINE bytes.
     #[tactic(auto, unfolding(crate::specs::Text::sort_text))]
     fn put_sort_text(&self, id: SortId, out: &mut Out<'_>)
         ensures { out.new ≡ then_put out.old (sort_text self.now.sorts.words.now self.now.sorts.counts.sorts id.0) }
     {
         if self.is_short(id) {
-            let mut text = [0u8; MAX_LINE];
-            let end = put_sort(self.sorts.words, self.sorts.counts, id, &mut text, 0);
-            out.put_text(&text[..end]);
+            put_text(&self.sorts, id, out);
         } else {
             put_number_of(b's', id.0, out);
         }

@@ -15,12 +15,12 @@ use Rattle.std.specs.Prelude.{Ok, Err}
 use Rattle.resolved_sort.specs.Storage.{max_sorts, max_entries, full_length, entries_at}
 use Rattle.resolved_sort.specs.Checks.{Check, first_failing, sort_checks, within_lent, rows_fine, no_two_equal, in_list, at_ceiling}
 use Rattle.resolved_sort.specs.Entries.{refused_or, tree_at}
+use Rattle.resolved_sort.specs.Rows.{Checked}
 use Rattle.resolved_sort.specs.Growing.{ListFine}
 use Rattle.resolved_sort.proofs.FirstFailing.{first_fails, first_passes, append_fails, append_passes, cons_passes}
 use Rattle.sort_text.specs.Text.{writable, text}
 use Rattle.sort_text.specs.Writing.{write_checks, write_left, writing}
 use Rattle.sort_writer.specs.Inner.Sizes.{most_size, capped, size_if, sized, sizes_to}
-use Rattle.sort_writer.specs.Inner.Puts.{SortRoom}
 use Rattle.text_out.specs.Put.{Put}
 use Rattle.sort_writer.proofs.Front.{put_front}
 use Rattle.sort_writer.proofs.Sizes.{capped_short, capped_long, text_some}
@@ -154,6 +154,12 @@ module _ (ws : List ℕ) (n e a : ℕ) (out : List ℕ) where
                     (capped_within _ _ m (omega (arith, written_size.1))),
               )))
 
+-- a sort of a checked list, whose text has room
+pub record SortRoom (ws : List ℕ) (n e a : ℕ) (out : List ℕ) : Type 0 where
+  pub checked : Checked ws n e
+  pub below : a < n
+  pub room : length (text (tree_at ws n a)) ≤ length out
+
 -- what the entry answers
 module _ (ws : List ℕ) (n e a : ℕ) (out : List ℕ) (t : Tested) (et : t ≡ first_failing (write_checks ws n e a out)) where
   pub refused : (c : Refusal) → t ≡ Err c → write_left out (Err c) ≡ writing ws n e a out
@@ -164,7 +170,7 @@ module _ (ws : List ℕ) (n e a : ℕ) (out : List ℕ) (t : Tested) (et : t ≡
     none_fails : first_failing (write_checks ws n e a out) ≡ Ok tt
     none_fails = sym et ∙ p
 
-    pub has_room : SortRoom ws n e a out 0
+    pub has_room : SortRoom ws n e a out
     unfolding write_checks sort_checks in_list at_ceiling
     has_room =
         let c₁ = cons_passes _ _ none_fails in

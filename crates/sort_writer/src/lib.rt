@@ -9,8 +9,6 @@ ghost use Rattle.resolved_sort.specs.Entries.{tree_at};
 ghost use Rattle.sort_text.specs.Text.{text};
 ghost use Rattle.sort_text.specs.Writing.{write_checks, write_left, writing};
 ghost use Rattle.sort_writer.specs.Inner.Sizes.{joined, run_size, row_size, sizes_to};
-ghost use Rattle.sort_writer.specs.Inner.Puts.{SortRoom};
-ghost use Rattle.text_out.specs.Put.{Put};
 ghost use Rattle.text_out.specs.Outs.{then_put};
 ghost use Rattle.sort_writer.specs.Packed.{pack_written, packed_write, pack_write_left};
 
@@ -133,18 +131,6 @@ pub fn put_text(sorts: &Sorts, id: SortId, out: &mut Out)
             put_text(sorts, range, out);
         }
     }
-}
-
-// The text of a sort of a checked list that has room from a place on; the place behind it.
-pub fn put_sort(words: &[u16], counts: Counts, id: SortId, out: &mut [u8], at: usize) -> usize
-    requires { SortRoom words.now counts.sorts counts.entries id.0 out.old at }
-    ensures { Put out.old at (text (tree_at words.now counts.sorts id.0))
-        out.new result }
-{
-    let sorts = Sorts { words, counts };
-    let mut to = Out { bytes: out, at };
-    put_text(&sorts, id, &mut to);
-    to.at
 }
 
 // Checks 1 to 4, 12, 13 and 14 of writing a sort: the first that fails.

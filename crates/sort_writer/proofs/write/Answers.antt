@@ -26,4 +26,4 @@ put_text-requires c = (law.has_room _ _ _ _ _ _ c.test_write.ensures c.in_ok-tes
 pub returns : goal.returns
 returns c =
     let q = law.has_room _ _ _ _ _ _ c.test_write.ensures c.in_ok-test_write.was in
-    law.answered _ _ _ _ _ _ c.test_write.ensures c.in_ok-test_write.was (put.left_whole _ _ q.room c.put_text.ensures (search rules))
+    law.answered _ _ _ _ _ _ c.test_write.ensures c.in_ok-test_write.was (put.left_whole _ _ (omega (arith, q.room)) c.put_text.ensures (search rules))
