@@ -1,4 +1,5 @@
 -- How rows are found and appended.
+pub mod Apart
 pub mod Runs
 pub mod Rows
 pub mod Find
