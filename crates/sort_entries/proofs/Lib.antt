@@ -3,3 +3,4 @@ pub mod Laws
 pub mod Codes
 pub mod Answered
 pub mod Packed
+pub mod Fields
