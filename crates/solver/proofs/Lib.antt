@@ -7,3 +7,4 @@ pub mod Overloads
 pub mod Joins
 pub mod Solving
 pub mod Structs
+pub mod Told
