@@ -19,6 +19,20 @@ use Rattle.list_forms.specs.Items.{word_at}
 use Rattle.list_forms.specs.Plans.{saturated}
 use Rattle.list_reader.specs.Taking.{appended, next_row, append_times, append_run, fixed_rows}
 
+-- a row has 5 words at most
+pub width_small : (k : Table) → (layout_of k).width ≤ 5
+unfolding layout_of
+width_small Table.Sorts = omega arith
+width_small Table.Entries = omega arith
+width_small Table.Nodes = omega arith
+width_small Table.NodeEntries = omega arith
+width_small Table.Vars = omega arith
+width_small Table.Exprs = omega arith
+width_small Table.Names = omega arith
+width_small Table.Constraints = omega arith
+width_small Table.Overloads = omega arith
+width_small Table.Sources = omega arith
+
 -- a row of 5 words at most, of 65,535 rows at most
 pub row_within : (width n : ℕ) → width ≤ 5 → n ≤ 65535 → width * n ≤ 327675
 row_within width n h e = mul-le-mul h e
