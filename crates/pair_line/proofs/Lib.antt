@@ -6,5 +6,6 @@ pub mod Lines
 pub mod LineRead
 pub mod Answer
 pub mod Ways
+pub mod Rooms
 pub mod PairLength
 pub mod Examples
