@@ -327,6 +327,7 @@ fn constraint_row(row: [u16; 5], last: LastConstraint) -> Plan
 }
 
 // What was expected, where it does not hold.
+// kept: beside `check` of solve_checks: its contract names the first failing check, this one what holds after `?`.
 fn expect(holds: bool, form: Form) -> Result<(), Form>
     ensures { MatchResult result (λ _. holds ≡ true) (λ f. (holds ≡ false) × (f ≡ form)) }
 {

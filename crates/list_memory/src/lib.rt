@@ -226,8 +226,7 @@ pub const LIST_TYPING_WORDS: usize = TYPING_WORDS * MAX_EXPRS;
 pub const LIST_CHOICE_WORDS: usize = CHOICE_WORDS * MAX_CONSTRAINTS;
 
 // Where the slices of a call begin, one behind the other.
-// kept: one array of fixed memory and not a field for each table, since a row goes to a table that is chosen as the
-// program runs, and a `&mut` of one field or another is not covered by the borrow checker.
+// kept: one array and no field for each table: what storing a row does would be said once for each of ten fields.
 pub const LIST_SORTS_AT: usize = 0;
 
 pub const LIST_NODES_AT: usize = LIST_SORTS_AT + SORT_WORDS;
@@ -255,8 +254,7 @@ pub const LIST_SCRATCH_AT: usize = LIST_CHOICES_AT + LIST_CHOICE_WORDS;
 // Behind the slices: the rows given of each list; the default sort; the count that a `count` line tells of each list,
 // and whether one told it; the length that a `lend` line tells of each slice, and whether one told it; how far the list
 // is read; and the kind of the last constraint line. A few words more are free.
-// kept: a word beside each count and length says whether a line told it, and no Option, since they are words of the one
-// array.
+// kept: whether a line told it is a word beside each count and length, and no Option: all are words of one array.
 pub const ROWS_AT: usize = LIST_SCRATCH_AT + SCRATCH_WORDS;
 
 pub const DEFAULT_AT: usize = ROWS_AT + 10;

@@ -43,6 +43,7 @@ fn run(
 }
 
 // Solve on a problem that passed its checks.
+// kept: four lent slices apart, here and in solve, since a Search takes each of them and holds more.
 fn solve_passed(
     sorts: &mut [u16],
     nodes: &mut [u16],
@@ -112,6 +113,7 @@ pub fn solve(
 
 // The entry for callers in other languages: a slice is a pointer and a length, counts are numbers,
 // and the answer is packed.
+// kept: an export with its parameters apart, since C calls it so.
 #[unsafe(no_mangle)]
 pub extern "C" fn sort_solve(
     sorts: &mut [u16],

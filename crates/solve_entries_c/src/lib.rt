@@ -1,5 +1,6 @@
 // The entry solve for C: the export of `solve_entries`, with its clauses.
 // A crate is a library of the repository or an archive for C, so the exports stand here, thinly over the crate that others use.
+// kept: the export again, with its parameters apart, since C calls it so.
 #![tactic(auto)]
 
 ghost use Rattle.std.specs.Prelude.{◌≡◌};

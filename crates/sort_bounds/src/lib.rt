@@ -62,6 +62,7 @@ pub fn meet(sorts: &mut SortInterner, lhs: SortId, rhs: SortId) -> Result<Option
 }
 
 // Two arguments of functions whose join (up) or meet is asked: a domain is contravariant, so they go the other way.
+// kept: join and meet are two and call each other, as document 01 names the form; bound does the work.
 #[cycle(join_meet)]
 fn against(
     sorts: &mut SortInterner,
@@ -82,6 +83,7 @@ fn against(
 }
 
 // Join (up) or meet of two sorts. Equal numbers are equal sorts, and make nothing.
+// kept: `up` is a bool, as in the definitions: a Direction of two names would be turned into it in each contract.
 #[cycle(join_meet)]
 pub fn bound(
     sorts: &mut SortInterner,

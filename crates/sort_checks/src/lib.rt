@@ -122,6 +122,7 @@ impl<'a> Lent<'a> {
 }
 
 // Checks 1 to 4: the first that fails.
+// kept: the list with its counts as C hands them to the entries: a Lent made by each caller is no plainer.
 pub fn test_sorts(sorts: &[u16], sort_count: usize, entry_count: usize) -> Result<(), Refusal>
     ensures { result ≡ first_failing (sort_checks sorts.now sort_count entry_count) }
 {

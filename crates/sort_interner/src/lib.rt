@@ -30,6 +30,7 @@ pub struct Sorts<'a> {
 }
 
 // The sorts of a checked list, to which new ones are added.
+// kept: that they are checked stands in requires and no ghost field, since between the words of a row it does not hold.
 #[derive(Drop)]
 pub struct SortInterner<'a> {
     pub words: &'a mut [u16],
@@ -37,6 +38,7 @@ pub struct SortInterner<'a> {
 }
 
 // A row that is looked for, or is to be stored.
+// kept: kind is a number, since it is compared with words that C lends, and stored among them.
 #[derive(Clone, Copy)]
 struct Row<'a> {
     kind: u16,
@@ -45,7 +47,7 @@ struct Row<'a> {
 }
 
 // What the words of a row say. Every kind above 12 says TypeVar: that it is 13 is check 3's to show.
-// kept: kinds are numbers, since the layout of the lent words is the C interface.
+// kept: kinds are numbers, since C lends them so, and no From, since a row says its sort by all its four words.
 #[tactic(auto, unfolding(resolved_sort::specs::Storage::resolved))]
 fn row_of(kind: u16, part: u16, run: Run) -> ResolvedSort
     ensures { result ≡ resolved kind part run }
@@ -148,6 +150,7 @@ fn entry(words: &[u16], run: Run, k: u16) -> SortId
 }
 
 // Whether two runs have the same entries. Where they start does not count.
+// kept: entry by entry and no equality of slices, since an entry past the end counts as 0.
 fn same_run(words: &[u16], a: Run, b: Run) -> bool
     ensures { result
         ≡ same_words (entries_of words.now a.start a.count)
@@ -175,7 +178,7 @@ pub fn same_rows(sorts: &[u16], lhs: SortId, rhs: SortId) -> bool
 }
 
 // Whether a run has these sorts as its entries, and no more.
-// kept: beside same_run: one function over a closure for the k-th entry needs a longer contract than both have code.
+// kept: beside same_run: one over a closure for the k-th entry would need a contract of what the closure answers.
 fn has_args(words: &[u16], run: Run, args: &[SortId]) -> bool
     ensures { result ≡ same_words (entries_of words.now run.start run.count) (sort_numbers args.now) }
 {

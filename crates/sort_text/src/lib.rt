@@ -65,6 +65,7 @@ impl From<NoRoom> for Unread {
 pub const MAX_LINE: usize = 200;
 
 // The step of a function of k arguments is FUNCTION_STEP + k, and it has at most so many.
+// kept: a number, since steps are bytes of a lent buffer, with zeros behind them; sort_reader tells them apart.
 pub const FUNCTION_STEP: u8 = 16;
 
 pub const MOST_ARGUMENTS: u8 = 16;

@@ -47,6 +47,7 @@ impl<'a> Out<'a> {
     }
 
     // The digit of a number for a unit that it reaches.
+    // kept: digit by digit, since `write!` ends with an error where room ends, and here what fits is put.
     #[tactic(auto, using(crate::proofs::Outs::no_digit, crate::proofs::Outs::a_digit))]
     fn put_digit(&mut self, n: u16, unit: u16)
         requires { 1 ≤ unit }

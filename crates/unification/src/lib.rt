@@ -119,7 +119,9 @@ pub const NODE_WORDS: usize = 12288;
 pub const NODE_ENTRIES_BEHIND: u16 = 4096;
 
 // The kind of a variable's row.
+// kept: a number, since the layout of the lent words is the C interface.
 pub const VARIABLE_KIND: u16 = 14;
 
 // The binding of a free variable.
+// kept: a word and no None, since the layout of the lent words is the C interface.
 pub const FREE_WORD: u16 = 65535;
