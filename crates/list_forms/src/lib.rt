@@ -91,6 +91,7 @@ pub enum Item {
 }
 
 // The kinds of names and overloads in their rows.
+// kept: beside NameTarget, whose Op holds a sort: a row has the kind and the sort as two words.
 #[derive(Clone, Copy, Debug, PartialEq, Eq)]
 pub enum Target {
     Variable = 1,

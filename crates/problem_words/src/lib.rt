@@ -59,6 +59,7 @@ pub fn overload_place(lists: &[u16], i: u16) -> InferSortId
 }
 
 // The kind of a literal. Every kind above 0 says natural: that it is 1 is check 9's to show.
+// kept: a function and no From, since neither a word nor LitKind is a type of this crate.
 fn lit_kind(kind: u16) -> LitKind
     ensures { result ≡ lit_kind kind }
 {
@@ -69,6 +70,7 @@ fn lit_kind(kind: u16) -> LitKind
 }
 
 // What a name stands for. Every kind but 1 and 2 says built-in: that it is 3 is for checks 8 and 9 to show.
+// kept: a function and no From, since two words of a row say it, and NameTarget is no type of this crate.
 pub fn name_target(kind: u16, sort: u16) -> NameTarget
     ensures { result ≡ target kind sort }
 {

@@ -138,6 +138,7 @@ fn no_two<F: Fn(usize) -> Option<ExprId>>(count: usize, expr_of: F) -> bool
 }
 
 // The sum of what the constraints count, each by itself.
+// kept: a count beside the list, since what is lent may be longer, and to cut it would ask three contracts for check 1.
 fn total<F: Fn(Constraint) -> u16>(constraints: &[u16], count: u16, counts: F) -> usize
     requires { F.IsAlwaysCallable counts }
     ensures { (f : Constraint → ℕ) → Computes (F.post counts) f
@@ -256,6 +257,7 @@ impl Problem<'_> {
     }
 
     // Whether a name target has a known kind and, where it is an operation, a sort of the list.
+    // kept: a number, since the word may be of no kind: that is what is asked.
     #[tactic(auto, unfolding(inference::specs::SolveChecks::target_fine))]
     fn target_fine(&self, kind: u16, sort: SortId) -> bool
         ensures { result ≡ target_fine (call_for self.now) kind sort.0 }
@@ -353,6 +355,7 @@ impl Problem<'_> {
 
     // Packs the lists of the problem, as far as they are given: constraints, overloads, sources and places of
     // expressions, each at its ceiling.
+    // kept: lists and sizes apart, since a Search takes the one and the other.
     pub fn pack(&self, lists: &mut [u16], sizes: Sizes)
         requires { Packable lists.old self.now.exprs.now self.now.constraints.now
             self.now.overloads.now self.now.sources.now sizes }
