@@ -107,6 +107,7 @@ fn lend(list: &[u16], slice: Slice, table: Table) -> &[u16]
 }
 
 // The solver asked about a list, with its counts and the slices that it may change.
+// kept: four lent slices apart, since a Search holds each of them, and more besides.
 #[tactic(auto, unfolding(list_memory::specs::Layouts::layout_of))]
 pub fn solve_list(
     list: &[u16],
