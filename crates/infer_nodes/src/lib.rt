@@ -42,8 +42,7 @@ pub fn with_counts(lengths: Lengths, counts: Counts) -> Lengths
 }
 
 // The container constructor of a kind.
-// kept: a row's kind is a number, as the C interface hands it. TryFrom would have to answer for kinds that no checked
-// row has, and node would then match on that answer.
+// kept: no TryFrom: node has told functions and variables apart before, and no checked node is below a List.
 fn op_of_kind(kind: u16) -> ComplexSort
     ensures { result ≡ op_of_kind kind }
 {
@@ -88,6 +87,7 @@ pub fn argument(nodes: &[u16], i: u16) -> InferSortId
 }
 
 // The head of a sort: its kind, and the number of arguments of a function, or that of Def and TypeVar.
+// kept: the kind as the word of the row, as in Row.
 #[derive(Clone, Copy, PartialEq, Eq)]
 struct Head {
     kind: u16,
@@ -96,6 +96,7 @@ struct Head {
 
 // What stands at a place: the row of a sort or of a node, and the words in which its arguments stand, from `entries`
 // on.
+// kept: kind is the word of the row, as C lends it, which a check has shown to be a kind.
 #[derive(Clone, Copy)]
 pub struct Row<'a> {
     kind: u16,
@@ -288,8 +289,7 @@ impl Bindings<'_, '_> {
         ensures { follow (graph self.now.places) deep (bindings self.now) id.0 ≡ some result.0 }
     {
         let mut end = id;
-        // kept: merc has this loop too: how long a chain of bindings is is not known before, and successors with last
-        // says it no plainer.
+        // kept: merc's loop: how long a chain is, is not known before; successors and last are no plainer.
         while let Some(next) = self.bound_to(end) {
             end = next;
         }
