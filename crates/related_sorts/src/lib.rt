@@ -75,6 +75,7 @@ fn related_container(op: ComplexSort, up: bool) -> Option<ComplexSort>
 }
 
 // The first count parts of the sort at a place, as words to be stored.
+// kept: an array with room for the most arguments, since there is no heap.
 fn arguments(places: &Places, id: InferSortId, count: u16) -> [u16; ARGUMENT_WORDS]
     requires { IsFunction places.now.sorts.now places.now.nodes.now places.now.lengths id.0 count }
     ensures { take count result
@@ -119,6 +120,7 @@ fn final_range(bindings: &Bindings, id: InferSortId, functions: &mut [u16]) -> L
 }
 
 // These words stored as the argument entries from the e-th on.
+// kept: beside put_sorts of sort_interner, which stores SortIds: a slice of these is no slice of words.
 fn put_arguments(nodes: &mut [u16], e: u16, arguments: &[u16])
     requires { length arguments.now ≤ max_arguments }
     ensures { nodes.new ≡ sets nodes.old (node_entries_at + e) arguments.now }
@@ -158,6 +160,7 @@ impl Arena<'_> {
     // One more node, where there is room.
     // Merc's arena only grows, and what a branch that is rolled back has made stays as harmless garbage. Here room has
     // an end, and the search gives these nodes back when the tries are over.
+    // kept: the kind as the word of the row that is made, as in sort_interner.
     fn push(&mut self, kind: u16, part: InferSortId, arguments: &[u16]) -> Result<InferSortId, Full>
         requires { length arguments.now ≤ max_arguments }
         ensures keeps { Keeps self.old self.new }
@@ -181,6 +184,7 @@ impl Arena<'_> {
     }
 
     // Functions of the same arguments over each of the ranges.
+    // kept: by index: over `&mut ids` one name would be the range that is read and the function that is stored.
     fn push_functions(&mut self, domain: &[u16], ranges: Listed) -> Result<Listed, Full>
         requires { length domain.now ≤ max_arguments }
         ensures keeps { Keeps self.old self.new }

@@ -5,6 +5,7 @@ ghost use Rattle.std.specs.Prelude.{◌≡◌, ◌≤◌, length};
 use unification::InferSortId;
 
 // Places that were listed, nearest first: at most three, of which so many count.
+// kept: an array with a count, since there is no heap, and three are the most.
 #[derive(Clone, Copy, Drop)]
 pub struct Listed {
     pub ids: [InferSortId; 3],
