@@ -51,6 +51,7 @@ pub fn is_place(n: usize, m: usize, p: InferSortId) -> bool
 }
 
 // Whether a node has a known kind: a container, a function or a variable.
+// kept: a number, since the word may be no kind: that is what is asked.
 #[tactic(auto, unfolding(unification::specs::NodeChecks::node_kind_fine))]
 fn kind_fine(kind: u16) -> bool
     ensures { result ≡ node_kind_fine kind }
@@ -59,6 +60,7 @@ fn kind_fine(kind: u16) -> bool
 }
 
 // Node storage as it was lent, with the counts given of it, and how many sorts and variables its parts may name.
+// kept: beside sort_checks: rows are read otherwise, and parts are places and no numbers. A trait would say both anew.
 #[derive(Clone, Copy)]
 struct Lent<'a> {
     words: &'a [u16],
@@ -249,6 +251,7 @@ fn acyclic(nodes: &[u16], m: usize, binds: &[u16], v: usize) -> bool
 }
 
 // Checks 5 to 7: the first that fails.
+// kept: counts beside lent words, which check 1 alone has compared.
 pub fn test_nodes(
     sort_count: usize,
     nodes: &[u16],

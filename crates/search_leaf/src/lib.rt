@@ -78,6 +78,7 @@ fn extract(search: &mut Search<'_>) -> Result<bool, NoRoom>
 }
 
 // Keeps the measure and the choices of the branch as the incumbent's.
+// kept: of a Search these two only, so that its contract says nothing of the rest.
 fn keep(scratch: &mut [u16], sizes: Sizes)
     requires { Keepable sizes scratch.old }
     ensures { scratch.new ≡ kept_as_best sizes scratch.old }

@@ -26,7 +26,7 @@ pub struct Incumbent {
 
 // What the search works on: the lent sorts, nodes and bindings with how much of them is in use, the scratch, the lists
 // of the problem with their sizes, and the incumbent.
-// kept: functions take it, and no impl has them: a crate cannot write one for a struct of another crate.
+// kept: free functions take it, since several crates work on it and none can write an impl for another's struct.
 #[derive(Drop)]
 pub struct Search<'a> {
     pub sorts: &'a mut [u16],
@@ -50,7 +50,7 @@ pub struct Branch {
 
 // What comes next, where the Rust hands a closure to solve_widening: the constraints from a number on; or the sources
 // `from` .. `to` of a Join, widened to its target, and then the constraints from `then` on.
-// kept: a cycle of calls that goes through a closure gets no generated proof.
+// kept: a value, as document 01 has it in place of the closure: a cycle of calls through one gets no generated proof.
 #[derive(Clone, Copy, Debug, PartialEq, Eq)]
 pub enum Next {
     Solve(u16),
@@ -63,7 +63,7 @@ pub enum Next {
 }
 
 // The places that a try makes equal: two, or two and then two more.
-// kept: a slice of pairs would need its length, one or two, in each contract of the cycle.
+// kept: one or two by name: a slice would be lent through the cycle, whose contracts would speak of its words too.
 #[derive(Clone, Copy, Debug, PartialEq, Eq)]
 pub enum Pairs {
     One(InferSortId, InferSortId),
@@ -83,7 +83,7 @@ pub enum Step {
 
 // Tries one after another: each of the first `count` places against another one, on its left (up) or on its right, the
 // first with the component `first`, each next with one more.
-// kept: an array with its count, since no heap holds a list and a slice of places that are made has no owner.
+// kept: an array with its count, since there is no heap to hold a list and a slice made here has no owner.
 #[derive(Clone, Copy, Debug, PartialEq, Eq)]
 pub struct Tries {
     pub ids: [InferSortId; MAX_TRIES],

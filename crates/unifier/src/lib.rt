@@ -28,6 +28,7 @@ pub fn undo(binds: &mut [u16], trail: &[u16], base: u16, count: u16)
 
 // Places, what the variables there are bound to, and the trail: the variables that were bound, one after another, of
 // which so many count.
+// kept: a count beside the lent trail, since what is lent is longer than what counts.
 #[derive(Drop)]
 pub struct Unifier<'p, 'b> {
     pub places: Places<'p>,
