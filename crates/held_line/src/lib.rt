@@ -5,8 +5,7 @@ ghost use Rattle.std.specs.Prelude.{◌≡◌, ◌+◌, ◌≤◌, length};
 ghost use Rattle.held_line.specs.Holding.{line_kept, held_at};
 
 // One byte more of the line that starts at `start`, of which at most `most` bytes are held; how many are held then.
-// kept: a test and a store, since of a part of the memory that is lent, to an Out or for get_mut, nothing is known when
-// it comes back.
+// kept: a test and a store are two lines; an Out made for one byte is no plainer.
 pub fn hold(memory: &mut [u8], most: usize, start: usize, count: usize, byte: u8) -> usize
     requires { start + most ≤ length memory.old }
     ensures { line_kept memory.new result ≡ held_at most memory.old start count byte }

@@ -146,6 +146,7 @@ fn first_spelled(words: &[Word], bytes: &[u8]) -> Option<Word>
 }
 
 // A line and a position in it.
+// kept: functions over line and position beside it, as document 01 names the form.
 #[derive(Clone, Copy, Debug)]
 pub struct Reader<'a> {
     pub line: &'a [u8],

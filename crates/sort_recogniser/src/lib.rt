@@ -29,8 +29,7 @@ impl From<Stuck> for Unread {
 }
 
 // The step of a basic sort.
-// kept: steps are written as bytes, since behind those of a line the buffer is to be zero; they are told apart where
-// they are carried out.
+// kept: bytes, since recognise promises zeros behind the steps; sort_reader tells them apart.
 #[tactic(auto, unfolding(resolved_sort::specs::Storage::kind_flat))]
 fn step_of_sort(sort: Sort) -> u8
     ensures { result ≡ kind_flat (primitive sort) }
@@ -109,6 +108,7 @@ impl<'a> Recogniser<'a> {
     }
 
     // The operands so far are k: `#` and another operand, `->` and the range, or the end of the sort.
+    // kept: a call of itself for each `#`, as Parse.rest is defined; k counts operands and is no index.
     #[cycle(bracketed_operand_rest_sort)]
     fn rest(&mut self, k: u8) -> Result<(), Stuck>
         requires { HasRoom self.old × (1 ≤ k) × (k ≤ max_arguments) }

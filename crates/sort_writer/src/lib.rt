@@ -20,6 +20,7 @@ use text_out::Out;
 use words::{BIT_63, word};
 
 // The size of two texts one after the other. It stops at 2^63, and where one has no text there is none.
+// kept: a size of 0 and no Option, since a text has a byte at least, and 1,024 sizes stand in one array.
 #[tactic(auto, using(crate::proofs::Sizes::joined_none, crate::proofs::Sizes::joined_with_none, crate::proofs::Sizes::joined_as))]
 fn join_sizes(a: usize, b: usize) -> usize
     ensures { result ≡ joined a b }
@@ -38,7 +39,7 @@ pub fn size_at(sizes: &[usize], id: SortId) -> usize
 }
 
 // The size of the j-th argument of a run.
-// kept: sizes are found over the words, since 13 is tested before 14: a list whose storage is short is no Sorts yet.
+// kept: sizes over the words, since check 13 is made before check 14: a list whose storage is short is no Sorts yet.
 fn argument_size(sorts: &[u16], sizes: &[usize], start: u16, j: u16) -> usize
     ensures { result ≡ get_or sizes.now (entry_at sorts.now (start + j)) 0 }
 {
