@@ -55,6 +55,7 @@ pub struct Handout<'a> {
 }
 
 // The base names of a call, which are all in the words lent for them.
+// kept: a count beside lent words, since what is lent may be longer than what counts.
 #[derive(Clone, Copy)]
 pub struct BaseNames<'a> {
     pub words: &'a [u16],
@@ -128,7 +129,7 @@ fn write_choices(choices: &mut [u16], search: &Search<'_>)
 }
 
 // The kind and the sort of a name, as they are handed out. Only an operation has a sort.
-// kept: kinds are numbers, since the layout of what is handed out is the C interface.
+// kept: two words, since what is handed out is the C interface.
 fn name_words(name: NameTarget) -> (u16, u16)
     ensures { result ≡ (name_kind (some name), name_sort (some name)) }
 {
