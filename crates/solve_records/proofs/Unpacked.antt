@@ -1,6 +1,6 @@
 -- What unpacking a list of records does, as facts of lists. Assumes nothing.
 use mathlib.Core.Path.{◌≡◌, refl, sym, ap, ◌∙◌}
-use Prim.Native.Nat.{ℕ, suc, ◌+◌, ◌-◌, ◌*◌, ◌<◌, ◌≤◌}
+use Prim.Native.Nat.{ℕ, suc, ◌+◌, ◌-◌, ◌*◌, ◌<◌, ◌≤◌, min}
 use native.Mathlib.Omega.{arith}
 use mathlib.Core.List.{List, [], ◌∷◌, ◌++◌}
 use lib.ListN.{length, take, drop, set, replicate, length-take, length-replicate, drop_of_length-le}
@@ -34,20 +34,14 @@ three_words_are_a_record ws ws₁ ws₂ ws₃ i o e₁ e₂ e₃ =
     ∙ ap (λ (k : ℕ). set (set (set ws (3 * i) o.target.kind) (suc (3 * i)) o.target.sort.0) k o.sort.0) (two_on i)
 
 -- past the ceiling, or past the end, nothing is written
-pub none_past_the_ceiling : (os : List OverloadRecord) (i : ℕ) (ws : List ℕ) → max_overloads ≤ i → ws ≡ sets ws (3 * i) (words_from i os)
+none_past_the_last : (os : List OverloadRecord) (i : ℕ) (ws : List ℕ) → min max_overloads (length os) ≤ i → ws ≡ sets ws (3 * i) (words_from i os)
 unfolding record_words
-none_past_the_ceiling os i ws past =
-    sym (ap (λ (l : List OverloadRecord). sets ws (3 * i) (record_words l)) (drop_of_length-le (take max_overloads os)
-    {i = i} (omega (arith, past, length-take max_overloads os))))
-
-pub none_past_the_end : (os : List OverloadRecord) (i : ℕ) (ws : List ℕ) → length os ≤ i → ws ≡ sets ws (3 * i) (words_from i os)
-unfolding record_words
-none_past_the_end os i ws past =
+none_past_the_last os i ws past =
     sym (ap (λ (l : List OverloadRecord). sets ws (3 * i) (record_words l)) (drop_of_length-le (take max_overloads os)
     {i = i} (omega (arith, past, length-take max_overloads os))))
 
 -- the record at i, and then those from i + 1 on
-pub one_record_more : (os : List OverloadRecord) (i : ℕ) (ws : List ℕ) → i < max_overloads → i < length os
+one_record_more : (os : List OverloadRecord) (i : ℕ) (ws : List ℕ) → i < max_overloads → i < length os
     → sets (sets ws (3 * i) (words_of (record_at os i))) (3 * (i + 1)) (words_from (i + 1) os) ≡ sets ws (3 * i)
     (words_from i os)
 unfolding record_words
@@ -57,6 +51,29 @@ one_record_more os i ws below within =
     ∙ ap (λ (o : OverloadRecord). sets ws (3 * i) (record_words (o ∷ drop (suc i) (take max_overloads os)))) (sym (get_or-take max_overloads os i no_record below))
     ∙ ap (λ (l : List OverloadRecord). sets ws (3 * i) (record_words l)) (sym (drop-cons (take max_overloads os) i
     no_record (omega (arith, below, within, length-take max_overloads os))))
+
+-- The loop: storing the records that are left comes to storing all.
+module _ (os : List OverloadRecord) where
+  pub record RecordsLeft (ws : List ℕ) (i : ℕ) : Type 0 where
+    pub within : i ≤ min max_overloads (length os)
+    pub left : unpacked os ≡ sets ws (3 * i) (words_from i os)
+
+  pub records_begin : RecordsLeft (replicate 3072 0) 0
+  records_begin = record { within = omega arith; left = refl }
+
+  module _ (ws : List ℕ) (i : ℕ) (p : RecordsLeft ws i) where
+    pub records_go_on : i < min max_overloads (length os) → (us : List ℕ) → us ≡ sets ws (3 * i) (words_of (record_at os i)) → RecordsLeft us (i + 1)
+    records_go_on l us q =
+        record {
+          within = omega (arith, l);
+          left =
+              p.left
+              ∙ sym (one_record_more os i ws (omega (arith, l)) (omega (arith, l)))
+              ∙ ap (λ (r : List ℕ). sets r (3 * (i + 1)) (words_from (i + 1) os)) (sym q);
+        }
+
+    pub records_end : min max_overloads (length os) ≤ i → ws ≡ unpacked os
+    records_end l = none_past_the_last os i ws l ∙ sym p.left
 
 -- what is left falls
 pub one_record_less : (n i : ℕ) → i < n → n - (i + 1) < n - i

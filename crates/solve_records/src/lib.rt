@@ -12,7 +12,7 @@ ghost use Rattle.solve_outputs.specs.Packed.{packed_solve, pack_solve_left};
 ghost use Rattle.solve_entries.specs.Given.{given_of};
 ghost use Rattle.solve_records.specs.Records.{words_of, record_words};
 ghost use Rattle.solve_records.specs.Call.{call_over};
-ghost use Rattle.solve_records.specs.Inner.Records.{record_at, words_from, unpacked, words_of_count};
+ghost use Rattle.solve_records.specs.Inner.Records.{unpacked};
 
 use inference::{MAX_OVERLOADS, OVERLOAD_WORDS, Verdict};
 use resolved_sort::{Refusal, SortId};
@@ -42,15 +42,7 @@ pub struct OverloadRecord {
 }
 
 // The words of as many records as there can be.
-const UNPACKED_WORDS: usize = 3072;
-
-// The record at i.
-fn record_at(records: &[OverloadRecord], i: usize) -> OverloadRecord
-    requires { i < length records.now }
-    ensures { result ≡ record_at records.now i }
-{
-    records[i]
-}
+const UNPACKED_WORDS: usize = OVERLOAD_WORDS * MAX_OVERLOADS;
 
 // The three words of a record go to the places from 3 i on, those of them that are there.
 fn put_record(words: &mut [u16], i: usize, overload: OverloadRecord)
@@ -62,16 +54,11 @@ fn put_record(words: &mut [u16], i: usize, overload: OverloadRecord)
     put(words, OVERLOAD_WORDS * i + 2, overload.sort.0);
 }
 
-// The records from i on, up to the ceiling, each to its places. It calls itself at most 1,024 times.
-fn unpack_from(records: &[OverloadRecord], words: &mut [u16], i: usize)
-    ensures { words.new ≡ sets words.old (overload_words * i) (words_from i records.now) }
+// How many of n records are looked at.
+fn at_most(n: usize) -> usize
+    ensures { result ≡ min max_overloads n }
 {
-    if i < MAX_OVERLOADS {
-        if i < records.len() {
-            put_record(words, i, record_at(records, i));
-            unpack_from(records, words, i + 1);
-        }
-    }
+    MAX_OVERLOADS.min(n)
 }
 
 // The words of the records, up to the ceiling, and zeros after them. The array goes by value, so
@@ -80,39 +67,10 @@ fn unpack(records: &[OverloadRecord]) -> [u16; UNPACKED_WORDS]
     ensures { result ≡ unpacked records.now }
 {
     let mut words = [0; UNPACKED_WORDS];
-    unpack_from(records, &mut words, 0);
+    for i in 0..at_most(records.len()) {
+        put_record(&mut words, i, records[i]);
+    }
     words
-}
-
-// How many of n records are looked at.
-fn at_most(n: usize) -> usize
-    ensures { result ≡ min max_overloads n }
-{
-    MAX_OVERLOADS.min(n)
-}
-
-// The core on the words of n records, in place of the overloads of the problem.
-fn solve_unpacked(
-    sorts: &mut [u16],
-    nodes: &mut [u16],
-    binds: &mut [u16],
-    problem: &Problem<'_>,
-    words: [u16; UNPACKED_WORDS],
-    n: usize,
-    scratch: &mut [u16],
-    handout: &mut Handout<'_>,
-) -> Result<Verdict, Refusal>
-    ensures says { solve_left_with result sorts.new nodes.new binds.new scratch.new handout.new
-        ≡ solve_entry (call_over problem.now (take (words_of_count n) words)
-        sorts.old nodes.old binds.old scratch.old handout.old) }
-    ensures same_reference { SameHandout handout.old handout.new }
-{
-    let used = OVERLOAD_WORDS * at_most(n);
-    let unpacked = Problem {
-        overloads: &words[..used],
-        ..*problem
-    };
-    solve(sorts, nodes, binds, &unpacked, scratch, handout)
 }
 
 // Infers the sorts of the expressions, as solve does on the words of the records: these are the overloads, and those of
@@ -135,16 +93,12 @@ pub fn solve_records(
     ensures same_reference { SameHandout handout.old handout.new }
 {
     let words = unpack(overloads);
-    solve_unpacked(
-        sorts,
-        nodes,
-        binds,
-        problem,
-        words,
-        overloads.len(),
-        scratch,
-        handout,
-    )
+    let used = OVERLOAD_WORDS * at_most(overloads.len());
+    let unpacked = Problem {
+        overloads: &words[..used],
+        ..*problem
+    };
+    solve(sorts, nodes, binds, &unpacked, scratch, handout)
 }
 
 // The entry over records for callers in other languages: a slice is a pointer and a length, counts
