@@ -162,10 +162,7 @@ fn head_distance(sorts: &Sorts, from: SortId, to: SortId) -> u16
         ≡ head_steps (distance true (tree_at sorts.now.words.now sorts.now.counts.sorts from.0)
         (tree_at sorts.now.words.now sorts.now.counts.sorts to.0)) }
 {
-    match widening_distance(sorts, from, to) {
-        Some(steps) => steps.head as u16,
-        None => 0,
-    }
+    widening_distance(sorts, from, to).map_or(0, |steps| u16::from(steps.head))
 }
 
 // The head distances of the sorts to their join, as components after the measure.
