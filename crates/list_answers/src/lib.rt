@@ -17,7 +17,7 @@ use list_memory::{
     LIST_TYPING_WORDS, LIST_WORDS, Slice, Table,
 };
 use list_solve::ask;
-use list_verdict::{Typing, put_new_sorts, put_typing, put_verdict};
+use list_verdict::{Typing, put_answer, put_new_sorts, put_typing};
 use resolved_sort::{Refusal, SORT_WORDS};
 use solve_outputs::Handout;
 use sort_interner::Sorts;
@@ -77,7 +77,7 @@ fn tell(
         (told_text given exprs answer sorts.now handout.now.typing.now handout.now.measure.now
         handout.now.choices.now) }
 {
-    put_verdict(answer, out);
+    put_answer(answer, out);
     if let Ok(verdict) = answer {
         put_lines(verdict, given, exprs, sorts, handout, out);
     }

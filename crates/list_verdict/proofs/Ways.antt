@@ -1,4 +1,4 @@
--- A sort by its number, and the text of a sort by its size. Assumes nothing.
+-- What a code says, a sort by its number, and the text of a sort by its size. Assumes nothing.
 use mathlib.Core.Path.{◌≡◌, refl, sym, ◌∙◌, ap}
 use mathlib.Core.Bool.{Bool, true, false, ◌&&◌, and-eq-true_iff}
 use mathlib.Core.List.{List, [], ◌∷◌, ◌++◌}
@@ -22,10 +22,19 @@ use Rattle.sort_writer.specs.Inner.Sizes.{most_size, size_if, sized, sizes_to, r
 use Rattle.text_out.specs.Put.{Put}
 use Rattle.sort_writer.proofs.Sizes.{capped_short, capped_long, text_some}
 use Rattle.sort_writer.proofs.Fills.{sizes_right}
+use Rattle.list_verdict.specs.Words.{verdict_messages, message}
 use Rattle.list_verdict.specs.Text.{name, sort_name, short, sort_text}
 use Rattle.list_verdict.specs.Inner.Room.{SizesOf}
 
--- names of sorts
+-- codes and names of sorts
+pub no_message : (code : ℕ) → 13 ≤ code → (code ≡ 14 → ⊥) → (code ≡ 15 → ⊥) → (code ≡ 16 → ⊥) → (code ≡ 17 → ⊥) → (code ≡ 18 → ⊥) → [] ≡ message code
+unfolding message
+no_message code h a b c d e = go (dec_le 19 code)
+  where
+    go : Dec (19 ≤ code) → [] ≡ message code
+    go (yes l) = sym (get_or-eq_default verdict_messages [] l)
+    go (no l) = let z : code ≡ 13 = omega arith in rw z
+
 pub plain_name : (s : ℕ) → 6 ≤ s → name 115 s ≡ sort_name s
 unfolding sort_name
 plain_name s h = rw (le-ltb s 6 h)

@@ -43,6 +43,49 @@ struct SortTexts<'a> {
     ghost sized: { SizesOf sorts.words.now sorts.counts sizes.now },
 }
 
+// What a code says.
+// kept: by number, and no Refusal, since the line of any number may be asked for.
+#[tactic(auto, using(crate::proofs::Ways::no_message), unfolding(crate::specs::Words::message))]
+fn message(code: u16) -> &'static [u8]
+    ensures { result.now ≡ message code }
+{
+    match code {
+        0 => b"a typing",
+        1 => b"a list is above its ceiling or longer than what is lent for it",
+        2 => b"the first six sorts are not unit, Bool, Pos, Nat, Int, Real",
+        3 =>
+            b"a sort has an unknown kind, above 16 arguments, a run off its list or a part not below it",
+        4 => b"two sorts are equal",
+        5 =>
+            b"a node has an unknown kind, above 16 arguments, a run off its list, or a part or variable that is \
+            not there",
+        6 => b"a binding names neither a sort nor a node",
+        7 => b"a variable reaches itself",
+        8 => b"a place of an expression, or a base name, names nothing",
+        9 => b"a constraint has an unknown kind, a run off its list, or names what is not there",
+        10 => b"two disjunctions, or two base names, are for one expression",
+        11 => b"a join has no sources, or there are more than 256 components",
+        12 => b"the default sort is not in the list",
+        14 => b"an output, the scratch, or the storage of sorts or nodes is too short",
+        15 => b"the search has no room for a new sort",
+        16 => b"the search has no room for a new node",
+        17 => b"no typing found",
+        18 => b"ambiguous: several leaves have the least measure",
+        _ => b"",
+    }
+}
+
+// The line of a code.
+#[tactic(auto, using(text_out::proofs::Outs::put_parts), unfolding(crate::specs::Text::verdict_line))]
+pub fn put_verdict(code: u16, out: &mut Out<'_>)
+    ensures { out.new ≡ then_put out.old (verdict_line code) }
+{
+    out.put_number(code);
+    out.put_byte(b' ');
+    out.put_text(message(code));
+    out.put_byte(b'\n');
+}
+
 // The number of an answer in document 01.
 #[tactic(auto, unfolding(inference::specs::SolveEntry::code_solved))]
 fn code(answer: Result<Verdict, Refusal>) -> u16
@@ -54,49 +97,11 @@ fn code(answer: Result<Verdict, Refusal>) -> u16
     }
 }
 
-// What an answer says. The solver refuses no text and no line.
-#[tactic(auto, unfolding(crate::specs::Words::message, inference::specs::SolveEntry::code_solved, resolved_sort::specs::Checks::code_of))]
-fn message(answer: Result<Verdict, Refusal>) -> &'static [u8]
-    ensures { result.now ≡ message (code_solved answer) }
-{
-    match answer {
-        Ok(Verdict::Typing(_)) => b"a typing",
-        Ok(Verdict::NoTyping(_)) => b"no typing found",
-        Ok(Verdict::Ambiguous(_)) => b"ambiguous: several leaves have the least measure",
-        Err(Refusal::NotLent) => b"a list is above its ceiling or longer than what is lent for it",
-        Err(Refusal::NotFixedSix) => b"the first six sorts are not unit, Bool, Pos, Nat, Int, Real",
-        Err(Refusal::BadSort) =>
-            b"a sort has an unknown kind, above 16 arguments, a run off its list or a part not below it",
-        Err(Refusal::EqualSorts) => b"two sorts are equal",
-        Err(Refusal::BadNode) =>
-            b"a node has an unknown kind, above 16 arguments, a run off its list, or a part or variable that is \
-            not there",
-        Err(Refusal::BadBinding) => b"a binding names neither a sort nor a node",
-        Err(Refusal::Cyclic) => b"a variable reaches itself",
-        Err(Refusal::BadExpression) => b"a place of an expression, or a base name, names nothing",
-        Err(Refusal::BadConstraint) =>
-            b"a constraint has an unknown kind, a run off its list, or names what is not there",
-        Err(Refusal::TwoForOne) => b"two disjunctions, or two base names, are for one expression",
-        Err(Refusal::BadJoin) => b"a join has no sources, or there are more than 256 components",
-        Err(Refusal::NotInList) => b"the default sort is not in the list",
-        Err(Refusal::NoText) => b"",
-        Err(Refusal::TooShort) =>
-            b"an output, the scratch, or the storage of sorts or nodes is too short",
-        Err(Refusal::SortsFull) => b"the search has no room for a new sort",
-        Err(Refusal::NodesFull) => b"the search has no room for a new node",
-        Err(Refusal::LongLine) => b"",
-    }
-}
-
-// The line of an answer's number.
-#[tactic(auto, using(text_out::proofs::Outs::put_parts), unfolding(crate::specs::Text::verdict_line))]
-pub fn put_verdict(answer: Result<Verdict, Refusal>, out: &mut Out<'_>)
+// The line of an answer.
+pub fn put_answer(answer: Result<Verdict, Refusal>, out: &mut Out<'_>)
     ensures { out.new ≡ then_put out.old (verdict_line (code_solved answer)) }
 {
-    out.put_number(code(answer));
-    out.put_byte(b' ');
-    out.put_text(message(answer));
-    out.put_byte(b'\n');
+    put_verdict(code(answer), out);
 }
 
 // A sort by its number, and an expression: a letter and the number.

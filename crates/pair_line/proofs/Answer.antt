@@ -11,6 +11,7 @@ use Rattle.resolved_sort.specs.declared.Steps.{Steps as StepsAnswer}
 use Rattle.resolved_sort.specs.Tree.{Tree}
 use Rattle.resolved_sort.specs.Order.{ordering, bound, Steps, steps_of, distance, materializable}
 use Rattle.resolved_sort.specs.Entries.{tree_at}
+use Rattle.resolved_sort.specs.Rows.{Checked}
 use Rattle.text_out.specs.declared.Out.{Out}
 use Rattle.text_out.specs.Outs.{then_put}
 use Rattle.text_out.proofs.Outs.{put_then}
@@ -67,8 +68,8 @@ module _ (ws : List ℕ) (n e a b : ℕ) (q : BothRead ws n e a b) where
         }
 
     module _ (ws₂ : List ℕ) (n₂ e₂ : ℕ) (g₂ : RoomGrows ws₁ n₁ e₁ ws₂ n₂ e₂) where
-      pub last_asked : (a < n₂) × (b < n₂)
-      last_asked = (omega (arith, q.asked.lhs, g₁.longer, g₂.longer), omega (arith, q.asked.rhs, g₁.longer, g₂.longer))
+      pub last_asked : Checked ws₂ n₂ e₂ × (a < n₂) × (b < n₂)
+      last_asked = (g₂.checked, omega (arith, q.asked.lhs, g₁.longer, g₂.longer), omega (arith, q.asked.rhs, g₁.longer, g₂.longer))
 
       same_lhs₂ : tree_at ws₂ n₂ a ≡ s
       same_lhs₂ = g₂.same a (omega (arith, q.asked.lhs, g₁.longer)) ∙ same_lhs

@@ -32,8 +32,6 @@ use text_out::Out;
 enum Failed {
     Input,
     Output,
-    // The input, and then what there was to say at the end.
-    InputAndOutput,
     Endless,
 }
 
@@ -42,10 +40,6 @@ impl fmt::Display for Failed {
         match self {
             Failed::Input => write!(f, "the input cannot be read"),
             Failed::Output => write!(f, "the output cannot be written"),
-            Failed::InputAndOutput => write!(
-                f,
-                "the input cannot be read\nsolve_lists: the output cannot be written"
-            ),
             Failed::Endless => write!(f, "the input does not end"),
         }
     }
@@ -134,10 +128,7 @@ fn solve_all<R: Read, W: Write>(
         match lines.next_line(reader) {
             Ok(Some(held)) => write_line(to, list, held_of(&lines, held), number, out)?,
             Ok(None) => return write_end(to, list, out),
-            Err(_) => {
-                write_end(to, list, out).map_err(|_| Failed::InputAndOutput)?;
-                return Err(Failed::Input);
-            }
+            Err(_) => return Err(Failed::Input),
         }
     }
     Err(Failed::Endless)
@@ -164,6 +155,9 @@ fn main(rt: HostRuntime) -> ExitCode {
         Ok(()) => ExitCode::SUCCESS,
         Err(failed) => {
             let _ = eprintln!(rt; "solve_lists: {failed}");
+            if failed == Failed::Input && write_end(&mut to, &list, &mut out).is_err() {
+                let _ = eprintln!(rt; "solve_lists: {}", Failed::Output);
+            }
             ExitCode::FAILURE
         }
     }
