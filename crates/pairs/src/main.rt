@@ -22,6 +22,7 @@ use std::io::{Read, Write};
 use std::process::ExitCode;
 
 // What ends the program before the input ends.
+// kept: an enum for each program, since what ends it, and its name in the message, differ.
 #[derive(Clone, Copy, Debug, PartialEq, Eq)]
 enum Failed {
     Input,
@@ -43,10 +44,7 @@ impl fmt::Display for Failed {
 fn write<W: Write>(to: &mut W, bytes: &[u8]) -> Result<(), Failed>
     ensures { OnOk result (Appends (W.contents to.old) (W.contents to.new) bytes.now) }
 {
-    match to.write_all(bytes) {
-        Ok(()) => Ok(()),
-        Err(_) => Err(Failed::Output),
-    }
+    to.write_all(bytes).map_err(|_| Failed::Output)
 }
 
 // Bytes that were read: the output for them is written each time that the buffer is full. What is held after them.
