@@ -1,5 +1,5 @@
 -- The tests of a line, one after another; what the recognised steps store; and what stays of it. Assumes nothing.
-use mathlib.Core.Path.{◌≡◌, refl, sym, ◌∙◌, ap, subst}
+use mathlib.Core.Path.{◌≡◌, refl, sym, ◌∙◌, ap, ap₂, subst}
 use mathlib.Core.Bool.{true, ◌&&◌, and-eq-true_iff}
 use mathlib.Core.List.{List, [], ◌∷◌}
 use Prim.Native.Nat.{ℕ, zero, suc, ◌-◌, ◌*◌, ◌≤◌, ◌<◌}
@@ -122,6 +122,16 @@ module _ (ws : List ℕ) (n e : ℕ) (bs : List ℕ) (t : Tested) (et : t ≡ fi
           six = c₂.0;
           short = leb-true (length bs) 200 c₆.0;
         }
+
+    -- with the counts that the tests answered
+    module _ (k : Counts) (sorts_given : k.sorts ≡ n) (entries_given : k.entries ≡ e) where
+      pub passes_with : Passes ws k.sorts k.entries bs
+      passes_with =
+          subst (λ i. Passes ws i k.entries bs) (sym sorts_given) (subst (λ j. Passes ws n j bs) (sym entries_given) passes)
+
+      pub answered_with : (us : List ℕ) (r : ReadAnswer) → read_left us r ≡ read_as_of ws k.sorts k.entries bs (line bs)
+          → read_left us r ≡ reading ws n e bs
+      answered_with us r g = answered us r (g ∙ ap₂ (λ (i j : ℕ). read_as_of ws i j bs (line bs)) sorts_given entries_given)
 
 -- the fixed six
 pub tree_of_six : (T : List Tree) (r : Row) (k : ℕ) → k < 6 → r.kind ≡ k → tree_of T r ≡ sixth k

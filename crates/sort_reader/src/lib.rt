@@ -2,7 +2,7 @@
 // the entry tests all it is lent, recognises the line, and only then stores.
 #![tactic(auto)]
 
-ghost use Rattle.std.specs.Prelude.{MatchOption, OnErr, ◌≡◌, ◌+◌, ◌-◌, ◌<◌, ◌≤◌, [], set, take, drop};
+ghost use Rattle.std.specs.Prelude.{MatchOption, MatchResult, Ok, Err, OnErr, ◌≡◌, ◌+◌, ◌-◌, ◌<◌, ◌≤◌, [], set, take, drop};
 ghost use Rattle.sort_reader.specs.Inner.Run.{max_stack, run_at, Running, SaysStep, TopTaken, RunLeft};
 ghost use Rattle.resolved_sort.specs.Checks.{first_failing};
 ghost use Rattle.sort_text.specs.Parse.{line as line_of};
@@ -112,15 +112,19 @@ fn run(sorts: &mut SortInterner, steps: &[u8]) -> Option<SortId>
     stack.pop()
 }
 
-// Checks 1 to 4, 14 and 19: the first that fails.
+// Checks 1 to 4, 14 and 19: the first that fails, or the counts of the list.
 fn test_read(
     sorts: &[u16],
     sort_count: usize,
     entry_count: usize,
     line: &[u8],
-) -> Result<(), Refusal>
-    ensures { result
-        ≡ first_failing (read_checks sorts.now sort_count entry_count line.now) }
+) -> Result<Counts, Refusal>
+    ensures { MatchResult result
+        (λ counts. (counts.sorts ≡ sort_count)
+        × (counts.entries ≡ entry_count)
+        × (Ok tt ≡ first_failing (read_checks sorts.now sort_count entry_count line.now)))
+        (λ refusal. Err refusal
+        ≡ first_failing (read_checks sorts.now sort_count entry_count line.now)) }
 {
     test_sorts(sorts, sort_count, entry_count)?;
     if sorts.len() < SORT_WORDS {
@@ -129,7 +133,10 @@ fn test_read(
     if MAX_LINE < line.len() {
         return Err(Refusal::LongLine);
     }
-    Ok(())
+    Ok(Counts {
+        sorts: sort_count as u16,
+        entries: entry_count as u16,
+    })
 }
 
 // A line that passed the tests. What was stored stays; where room ended it is given back.
@@ -162,11 +169,7 @@ pub fn read(
     ensures { read_left sorts.new result
         ≡ reading sorts.old sort_count entry_count line.now }
 {
-    test_read(sorts, sort_count, entry_count, line)?;
-    let counts = Counts {
-        sorts: sort_count as u16,
-        entries: entry_count as u16,
-    };
+    let counts = test_read(sorts, sort_count, entry_count, line)?;
     let mut interner = SortInterner {
         words: sorts,
         counts,

@@ -1,26 +1,22 @@
 -- Refused with the first failing check; else the line is read. Assumes nothing.
-use Rattle.std.proofs.Common.{rules, arith, ap, ◌∙◌}
+use Rattle.std.proofs.Common.{rules, refl, ap, ◌∙◌}
 use Rattle.sort_text.specs.Reading.{read_left}
 use Rattle.sort_reader.proofs.Entry as law
 use Rattle.sort_reader.proofs.read.Goals as goal
 
-pub returns-in_err-test_read : goal.returns-in_err-test_read
-returns-in_err-test_read c =
-    ap (read_left _) (law.handed _ _ c.from_residual.ensures.1) ∙ law.refused _ _ _ _ _ c.test_read.ensures _ c.in_err-test_read.was
-
-pub overflow_cast-counts : goal.overflow_cast-counts
-overflow_cast-counts c = let q = law.passes _ _ _ _ _ c.test_read.ensures c.in_ok-test_read.was in omega (arith, q.checked.sorts)
-
-pub overflow_cast-counts-2 : goal.overflow_cast-counts-2
-overflow_cast-counts-2 c = let q = law.passes _ _ _ _ _ c.test_read.ensures c.in_ok-test_read.was in omega (arith, q.checked.entries)
+pub returns-in_err-counts : goal.returns-in_err-counts
+returns-in_err-counts c =
+    ap (read_left _) (law.handed _ _ c.from_residual.ensures.1) ∙ law.refused _ _ _ _ _ c.in_err-counts.ensures _ refl
 
 pub read_line-requires : goal.read_line-requires
-read_line-requires c = law.passes _ _ _ _ _ c.test_read.ensures c.in_ok-test_read.was
+read_line-requires c =
+    let q = c.in_ok-counts.ensures in law.passes_with _ _ _ _ _ q.2 refl _ q.0 q.1
 
 pub returns-in_err-id : goal.returns-in_err-id
 returns-in_err-id c =
+    let q = c.in_ok-counts.ensures in
     ap (read_left _) (law.handed _ _ c.from_residual-in_err-id.ensures.1)
-    ∙ law.answered _ _ _ _ _ c.test_read.ensures c.in_ok-test_read.was _ _ (search rules)
+    ∙ law.answered_with _ _ _ _ _ q.2 refl _ q.0 q.1 _ _ (search rules)
 
 pub returns : goal.returns
-returns c = law.answered _ _ _ _ _ c.test_read.ensures c.in_ok-test_read.was _ _ (search rules)
+returns c = let q = c.in_ok-counts.ensures in law.answered_with _ _ _ _ _ q.2 refl _ q.0 q.1 _ _ (search rules)
