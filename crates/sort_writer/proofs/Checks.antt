@@ -1,5 +1,5 @@
 -- The checks of writing, as the tests find the first that fails, and what it means that none fails. Assumes nothing.
-use mathlib.Core.Path.{◌≡◌, refl, sym, ◌∙◌}
+use mathlib.Core.Path.{◌≡◌, refl, sym, ◌∙◌, subst}
 use mathlib.Core.Bool.{Bool, true, false, cond, ◌&&◌, and-eq-true_iff}
 use mathlib.Core.List.{List, [], ◌∷◌, ◌++◌}
 use Prim.Native.Nat.{ℕ, ◌-◌, ◌*◌, ◌<◌, ◌≤◌}
@@ -8,6 +8,7 @@ use native.Mathlib.Decide.{dec_le}
 use lib.ListN.{length, get_or, drop, replicate, length-replicate}
 use lib.Dec.{leb}
 use borrow.Author.Tests.{ltb-true, leb-true, lt-ltb, le-ltb, le-leb, lt-leb}
+use Rattle.resolved_sort.specs.declared.Counts.{Counts}
 use Rattle.resolved_sort.specs.declared.Refusal.{Refusal}
 use Rattle.resolved_sort.specs.declared.Refusal.TheVariants.{NotInList, NoText, TooShort}
 use Rattle.resolved_sort.specs.Checks.{Tested}
@@ -191,6 +192,16 @@ module _ (ws : List ℕ) (n e a : ℕ) (out : List ℕ) (t : Tested) (et : t ≡
     pub answered : {left : List ℕ} {r : ℕ} → Put out 0 (text (tree_at ws n a)) left r → write_left left (Ok r) ≡ writing ws n e a out
     unfolding writing
     answered h = rw none_fails (put_front (omega (arith, has_room.room)) h)
+
+    -- with the counts that the tests answered
+    module _ (k : Counts) (sorts_given : k.sorts ≡ n) (entries_given : k.entries ≡ e) where
+      pub room_with : SortRoom ws k.sorts k.entries a out
+      room_with =
+          subst (λ i. SortRoom ws i k.entries a out) (sym sorts_given) (subst (λ j. SortRoom ws n j a out) (sym entries_given) has_room)
+
+      pub answered_with : {left : List ℕ} {r : ℕ} → Put out 0 (text (tree_at ws k.sorts a)) left r
+          → write_left left (Ok r) ≡ writing ws n e a out
+      answered_with {left} {r} h = answered (subst (λ i. Put out 0 (text (tree_at ws i a)) left r) sorts_given h)
 
 -- a text that was written fits the buffer, so its length is below 2^63 and no packed refusal
 pub text_fits : (ws : List ℕ) (n e a : ℕ) (out : List ℕ) (l : ℕ) → (writing ws n e a out).answer ≡ Ok l → l ≤ length out

@@ -2,7 +2,7 @@
 // that shared parts are looked at once; then the text is put into the lent buffer, or nothing is.
 #![tactic(auto)]
 
-ghost use Rattle.std.specs.Prelude.{◌≡◌, ◌+◌, ◌<◌, ◌≤◌, length, get_or, replicate};
+ghost use Rattle.std.specs.Prelude.{◌≡◌, Ok, Err, MatchResult, ◌+◌, ◌<◌, ◌≤◌, length, get_or, replicate};
 ghost use Rattle.resolved_sort.specs.Storage.{max_sorts, entry_at, entries_of};
 ghost use Rattle.resolved_sort.specs.Checks.{first_failing};
 ghost use Rattle.resolved_sort.specs.Entries.{tree_at};
@@ -134,17 +134,20 @@ pub fn put_text(sorts: &Sorts, id: SortId, out: &mut Out)
     }
 }
 
-// Checks 1 to 4, 12, 13 and 14 of writing a sort: the first that fails.
+// Checks 1 to 4, 12, 13 and 14 of writing a sort: the first that fails, or the counts of the list.
 fn test_write(
     sorts: &[u16],
     sort_count: usize,
     entry_count: usize,
     id: SortId,
     out: &[u8],
-) -> Result<(), Refusal>
-    ensures { result
-        ≡ first_failing
-        (write_checks sorts.now sort_count entry_count id.0 out.now) }
+) -> Result<Counts, Refusal>
+    ensures { MatchResult result
+        (λ counts. (counts.sorts ≡ sort_count)
+        × (counts.entries ≡ entry_count)
+        × (Ok tt ≡ first_failing (write_checks sorts.now sort_count entry_count id.0 out.now)))
+        (λ refusal. Err refusal
+        ≡ first_failing (write_checks sorts.now sort_count entry_count id.0 out.now)) }
 {
     test_sorts(sorts, sort_count, entry_count)?;
     if sort_count <= (id.0 as usize) {
@@ -160,7 +163,10 @@ fn test_write(
     if out.len() < size {
         return Err(Refusal::TooShort);
     }
-    Ok(())
+    Ok(Counts {
+        sorts: sort_count as u16,
+        entries: entry_count as u16,
+    })
 }
 
 // The text of a sort in the lent buffer, and its length. Not one byte is written on a refusal, and none past the text.
@@ -175,11 +181,7 @@ pub fn write(
     ensures { write_left out.new result
         ≡ writing words.now sort_count entry_count id.0 out.old }
 {
-    test_write(words, sort_count, entry_count, id, out)?;
-    let counts = Counts {
-        sorts: sort_count as u16,
-        entries: entry_count as u16,
-    };
+    let counts = test_write(words, sort_count, entry_count, id, out)?;
     let sorts = Sorts { words, counts };
     let mut to = Out { bytes: out, at: 0 };
     put_text(&sorts, id, &mut to);

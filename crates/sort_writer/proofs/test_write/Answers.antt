@@ -1,5 +1,5 @@
 -- After checks 1 to 4 the sort is looked for in the list, then its text is measured. Assumes nothing.
-use Rattle.std.proofs.Common.{arith, rules}
+use Rattle.std.proofs.Common.{arith, rules, refl}
 use Rattle.sort_writer.proofs.Checks as law
 use Rattle.sort_writer.proofs.test_write.Goals as goal
 
@@ -27,7 +27,22 @@ returns-then-out-size c =
     law.text_long _ _ _ _ _ c.in_ok-test_sorts.ensures c.if-sort_count-id.false c.text_size-size.ensures c.if-size-eq0.false
     c.if-sorts-lt-SORT_WORDS.false c.if-out-size.true
 
+pub overflow_cast-result : goal.overflow_cast-result
+overflow_cast-result c =
+    let p = law.all_pass _ _ _ _ _ c.in_ok-test_sorts.ensures c.if-sort_count-id.false c.text_size-size.ensures c.if-size-eq0.false
+    c.if-sorts-lt-SORT_WORDS.false c.if-out-size.false (omega arith) in
+    omega (arith, (law.has_room _ _ _ _ _ _ p refl).checked.sorts)
+
+pub overflow_cast-result-2 : goal.overflow_cast-result-2
+overflow_cast-result-2 c =
+    let p = law.all_pass _ _ _ _ _ c.in_ok-test_sorts.ensures c.if-sort_count-id.false c.text_size-size.ensures c.if-size-eq0.false
+    c.if-sorts-lt-SORT_WORDS.false c.if-out-size.false (omega arith) in
+    omega (arith, (law.has_room _ _ _ _ _ _ p refl).checked.entries)
+
 pub returns : goal.returns
-returns c =
-    law.all_pass _ _ _ _ _ c.in_ok-test_sorts.ensures c.if-sort_count-id.false c.text_size-size.ensures c.if-size-eq0.false
-    c.if-sorts-lt-SORT_WORDS.false c.if-out-size.false (omega arith)
+returns c = (
+  refl,
+  refl,
+  law.all_pass _ _ _ _ _ c.in_ok-test_sorts.ensures c.if-sort_count-id.false c.text_size-size.ensures c.if-size-eq0.false
+      c.if-sorts-lt-SORT_WORDS.false c.if-out-size.false (omega arith),
+)
