@@ -122,17 +122,18 @@ pub struct RecordedSolve {
     pub left: [u16; HELD_WORDS],
 }
 
-// What a line says by its letter.
-#[tactic(auto, unfolding(crate::specs::Inner::Lines::letter_of))]
-fn letter_of(letter: u8) -> Letter
-    ensures { result ≡ letter_of letter }
-{
-    match letter {
-        b'L' => Letter::List,
-        b'S' => Letter::Gives,
-        b'Q' => Letter::Asks,
-        b'X' => Letter::Left,
-        _ => Letter::Other,
+impl From<u8> for Letter {
+    ghost from_gives = { λ byte letter. letter ≡ letter_of byte };
+
+    #[tactic(auto, unfolding(crate::specs::Inner::Lines::letter_of))]
+    fn from(byte: u8) -> Self {
+        match byte {
+            b'L' => Letter::List,
+            b'S' => Letter::Gives,
+            b'Q' => Letter::Asks,
+            b'X' => Letter::Left,
+            _ => Letter::Other,
+        }
     }
 }
 
@@ -414,7 +415,7 @@ impl Recorded for RecordedSolve {
 
     #[tactic(auto, unfolding(crate::specs::Inner::Lines::by_letter))]
     fn replay(&mut self, letter: u8, numbers: &[u64]) -> Verdict {
-        match letter_of(letter) {
+        match Letter::from(letter) {
             Letter::List => self.begin(numbers),
             Letter::Gives => self.give(numbers),
             Letter::Asks => self.answer(numbers),

@@ -60,21 +60,22 @@ pub struct RecordedSorts {
     pub progress: Progress,
 }
 
-// What a line says by its letter.
-#[tactic(auto, unfolding(crate::specs::Inner::Lines::letter_of))]
-fn letter_of(letter: u8) -> Letter
-    ensures { result ≡ letter_of letter }
-{
-    match letter {
-        b'L' => Letter::List,
-        b'r' => Letter::Row,
-        b'a' => Letter::Arguments,
-        b'c' => Letter::Asks(Question::PartialCmp),
-        b'd' => Letter::Asks(Question::WideningDistance),
-        b'm' => Letter::Asks(Question::IsMaterializable),
-        b'j' => Letter::Asks(Question::Join),
-        b'k' => Letter::Asks(Question::Meet),
-        _ => Letter::Other,
+impl From<u8> for Letter {
+    ghost from_gives = { λ byte letter. letter ≡ letter_of byte };
+
+    #[tactic(auto, unfolding(crate::specs::Inner::Lines::letter_of))]
+    fn from(byte: u8) -> Self {
+        match byte {
+            b'L' => Letter::List,
+            b'r' => Letter::Row,
+            b'a' => Letter::Arguments,
+            b'c' => Letter::Asks(Question::PartialCmp),
+            b'd' => Letter::Asks(Question::WideningDistance),
+            b'm' => Letter::Asks(Question::IsMaterializable),
+            b'j' => Letter::Asks(Question::Join),
+            b'k' => Letter::Asks(Question::Meet),
+            _ => Letter::Other,
+        }
     }
 }
 
@@ -241,7 +242,7 @@ impl Recorded for RecordedSorts {
 
     #[tactic(auto, unfolding(crate::specs::Inner::Lines::by_letter))]
     fn replay(&mut self, letter: u8, numbers: &[u64]) -> Verdict {
-        match letter_of(letter) {
+        match Letter::from(letter) {
             Letter::List => self.begin(numbers),
             Letter::Row => self.row(numbers),
             Letter::Arguments => self.arguments(numbers),

@@ -78,21 +78,22 @@ pub struct RecordedUnify {
     pub progress: Progress,
 }
 
-// What a line says by its letter.
-#[tactic(auto, unfolding(crate::specs::Inner::Lines::letter_of))]
-fn letter_of(letter: u8) -> Letter
-    ensures { result ≡ letter_of letter }
-{
-    match letter {
-        b'L' => Letter::List,
-        b'r' => Letter::Row(Part::Sorts),
-        b'a' => Letter::Words(Part::Entries),
-        b'n' => Letter::Row(Part::Nodes),
-        b'b' => Letter::Words(Part::Arguments),
-        b'v' => Letter::Words(Part::Bindings),
-        b'w' => Letter::Binds,
-        b'u' => Letter::Asks,
-        _ => Letter::Other,
+impl From<u8> for Letter {
+    ghost from_gives = { λ byte letter. letter ≡ letter_of byte };
+
+    #[tactic(auto, unfolding(crate::specs::Inner::Lines::letter_of))]
+    fn from(byte: u8) -> Self {
+        match byte {
+            b'L' => Letter::List,
+            b'r' => Letter::Row(Part::Sorts),
+            b'a' => Letter::Words(Part::Entries),
+            b'n' => Letter::Row(Part::Nodes),
+            b'b' => Letter::Words(Part::Arguments),
+            b'v' => Letter::Words(Part::Bindings),
+            b'w' => Letter::Binds,
+            b'u' => Letter::Asks,
+            _ => Letter::Other,
+        }
     }
 }
 
@@ -372,7 +373,7 @@ impl Recorded for RecordedUnify {
 
     #[tactic(auto, unfolding(crate::specs::Inner::Lines::by_letter))]
     fn replay(&mut self, letter: u8, numbers: &[u64]) -> Verdict {
-        match letter_of(letter) {
+        match Letter::from(letter) {
             Letter::List => self.begin(numbers),
             Letter::Row(part) => self.row(part, numbers),
             Letter::Words(part) => {
