@@ -25,7 +25,8 @@ ghost use Rattle.recorded_solve.specs.Inner.Lines.{reply, ask_of, begin_line, gi
 
 use inference::{MAX_COMPONENTS, SCRATCH_WORDS};
 use replay::{Recorded, Verdict, store};
-use resolved_sort::SORT_WORDS;
+use resolved_sort::{SORT_WORDS, SortId};
+use solve_checks::Given;
 use solve_entries::sort_solve;
 use unification::{MAX_VARS, NODE_WORDS};
 use words::{BIT_8, BIT_24, BIT_40, BIT_52, MOST_WORD, copy, word};
@@ -85,22 +86,6 @@ pub enum Letter {
     Asks,
     Left,
     Other,
-}
-
-// The counts of a list, and its default sort.
-#[derive(Clone, Copy, Debug, PartialEq, Eq)]
-pub struct HeldCounts {
-    pub sorts: usize,
-    pub entries: usize,
-    pub nodes: usize,
-    pub arguments: usize,
-    pub variables: usize,
-    pub exprs: usize,
-    pub names: usize,
-    pub constraints: usize,
-    pub overloads: usize,
-    pub sources: usize,
-    pub default: u16,
 }
 
 // The slices that a question may change.
@@ -227,10 +212,10 @@ fn count_at(given: &[u16], i: usize) -> usize
 }
 
 // The counts of the list, and its default sort.
-fn counts_of(given: &[u16]) -> HeldCounts
+fn counts_of(given: &[u16]) -> Given
     ensures { result ≡ counts_held given.now }
 {
-    HeldCounts {
+    Given {
         sorts: count_at(given, 0),
         entries: count_at(given, 1),
         nodes: count_at(given, 2),
@@ -241,7 +226,7 @@ fn counts_of(given: &[u16]) -> HeldCounts
         constraints: count_at(given, 7),
         overloads: count_at(given, 8),
         sources: count_at(given, 9),
-        default: word(given, DEFAULT_AT),
+        default: SortId(word(given, DEFAULT_AT)),
     }
 }
 
@@ -296,7 +281,7 @@ impl Slices {
             counts.overloads,
             &given[SOURCES_AT..TYPING_AT],
             counts.sources,
-            counts.default,
+            counts.default.0,
             &mut self.scratch,
             &mut self.typing,
             &mut self.measure,

@@ -3,7 +3,7 @@ use Rattle.std.specs.Prelude.{List, [], ◌∷◌, ℕ, ◌+◌, ◌-◌, get_or
 use Rattle.std.proofs.lemmas.List.Edits.{sets}
 use Rattle.inference.specs.SolveChecks.{Call}
 use Rattle.words.specs.Words.{part}
-use Rattle.recorded_solve.specs.declared.HeldCounts.{HeldCounts}
+use Rattle.solve_checks.specs.declared.Given.{Given}
 use Rattle.solve_outputs.specs.Packed.{PackedSolve, packed_solve}
 use Rattle.recorded_solve.specs.declared.Slices.{Slices}
 
@@ -60,7 +60,7 @@ slice_of k ws = part (slice_start k) (slice_start (k + 1) - slice_start k) ws
 abbrev pub count_held : List ℕ → ℕ → ℕ
 count_held ws i = get_or ws (held_counts_at + i) 0
 
-abbrev pub counts_held : List ℕ → HeldCounts
+abbrev pub counts_held : List ℕ → Given
 counts_held ws =
     record {
       sorts = count_held ws 0;
@@ -73,11 +73,11 @@ counts_held ws =
       constraints = count_held ws 7;
       overloads = count_held ws 8;
       sources = count_held ws 9;
-      default = count_held ws 10;
+      default = record { 0 = count_held ws 10 };
     }
 
 -- a call about words held, with the slices that it may change
-abbrev pub call_held_with : List ℕ → HeldCounts → (sorts nodes binds scratch typing measure choices : List ℕ) → Call
+abbrev pub call_held_with : List ℕ → Given → (sorts nodes binds scratch typing measure choices : List ℕ) → Call
 call_held_with ws k ss ns bs xs ts ms cs =
     record {
       sorts = ss;
@@ -104,7 +104,7 @@ call_held_with ws k ss ns bs xs ts ms cs =
             overloads = k.overloads;
             sources = k.sources;
           };
-      default = k.default;
+      default = k.default.0;
       scratch = xs;
       typing = ts;
       measure = ms;
