@@ -1,6 +1,7 @@
 -- The words of a line: "Spaces before, between and after words do not matter"; "A number is decimal, 0 to 65535, without
 -- sign and without leading zeros"; "Names are a letter and a number".
-use Rattle.std.specs.Prelude.{Bool, cond, not, ◌&&◌, List, [], ◌∷◌, ℕ, zero, suc, ◌+◌, ◌*◌, ◌-◌, ltb, leb, eqb, length, get_or, drop, Option, Some, None}
+use Rattle.std.specs.Prelude.{Bool, cond, not, ◌&&◌, List, [], ◌∷◌, length, get_or, drop, Option, Some, None}
+use Rattle.std.specs.Prelude.{ℕ, zero, suc, ◌+◌, ◌*◌, ◌-◌, ltb, leb, eqb}
 use Rattle.std.specs.Char.{is_ascii_digit}
 use Rattle.text_out.specs.Quoted.{byte_of}
 use Rattle.sort_text.specs.Tokens.{run, past, skip}

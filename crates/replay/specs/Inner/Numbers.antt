@@ -1,5 +1,6 @@
 -- The numbers of a line: decimal digits, each number after one space.
-use Rattle.std.specs.Prelude.{cond, List, [], ◌∷◌, ℕ, zero, suc, ◌+◌, ◌*◌, ◌-◌, ltb, leb, eqb, length, get_or, set, take, drop, replicate, Option, Some, None}
+use Rattle.std.specs.Prelude.{cond, List, [], ◌∷◌, length, get_or, set, take, drop, replicate, Option, Some, None}
+use Rattle.std.specs.Prelude.{ℕ, zero, suc, ◌+◌, ◌*◌, ◌-◌, ltb, leb, eqb}
 use Prim.Native.Char.{code}
 use Rattle.std.specs.Char.{is_ascii_digit}
 use Rattle.replay.specs.declared.Fields.{Fields}
