@@ -1,6 +1,6 @@
 -- An answer as document 01 has it, its number and its values, and both as one number for callers in other languages:
 -- the code in the lowest 8 bits, each value above it in a field of its own.
-use Rattle.std.specs.Prelude.{List, [], ◌∷◌, ℕ, ◌+◌, ◌*◌, ◌^◌, ◌<◌}
+use Rattle.std.specs.Prelude.{Bool, true, false, List, [], ◌∷◌, ℕ, ◌+◌, ◌*◌, ◌^◌, ◌<◌}
 use Rattle.std.specs.Prelude.{Result, Ok, Err}
 use Rattle.resolved_sort.specs.declared.Refusal.{Refusal}
 use Rattle.resolved_sort.specs.Checks.{code_of}
@@ -40,6 +40,11 @@ abbrev pub coded_answer : {A : Type 0} → (A → List ℕ) → Result A Refusal
 coded_answer values (Ok a) = coded 0 (values a)
 coded_answer values (Err r) = coded (code_of r) []
 
+-- the value of a yes or a no: 1 for a yes
+abbrev pub yes_values : Bool → List ℕ
+yes_values true = 1 ∷ []
+yes_values false = 0 ∷ []
+
 -- what holds of an answer's refusal, or of what it is
 abbrev pub AnswerWithin : {A : Type 0} → (Refusal → Type 0) → (A → Type 0) → Result A Refusal → Type 0
 AnswerWithin R W (Ok a) = W a
@@ -49,3 +54,10 @@ AnswerWithin R W (Err r) = R r
 unfoldable pub pack_number : Result ℕ Refusal → ℕ
 pack_number (Ok values) = values
 pack_number (Err r) = code_of r
+
+-- a yes or a no as one number: bits 8 to 15 are 1 for a yes
+abbrev pub yes_widths : List ℕ
+yes_widths = 8 ∷ []
+
+abbrev pub pack_answered : Result Bool Refusal → ℕ
+pack_answered r = packed yes_widths (coded_answer yes_values r)

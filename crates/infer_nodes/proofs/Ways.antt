@@ -12,9 +12,11 @@ use borrow.Author.Tests.{lt-ltb, le-ltb, ne_eqb, eq-eqb}
 use Rattle.resolved_sort.specs.declared.Run.{Run}
 use Rattle.resolved_sort.specs.declared.ComplexSort.{ComplexSort}
 use Rattle.resolved_sort.specs.declared.ResolvedSort.{ResolvedSort}
-use Rattle.resolved_sort.specs.Storage.{max_sorts, row_at}
+use Rattle.resolved_sort.specs.declared.NoContainer.{NoContainer}
+use Rattle.resolved_sort.specs.Storage.{max_sorts, row_at, container_of}
 use Rattle.resolved_sort.proofs.Reached.{no_confusion}
-use Rattle.std.specs.Prelude.{Option as Found, Some, None}
+use Rattle.std.specs.Prelude.{Option as Found, Some, None, Result}
+use Rattle.std.specs.Result.{result_unwrap_or}
 use Rattle.unification.specs.declared.Lengths.{Lengths}
 use Rattle.unification.specs.declared.InferSortId.{InferSortId}
 use Rattle.unification.specs.declared.SortVar.{SortVar}
@@ -353,3 +355,24 @@ module _ (ws ns bs : List ℕ) (k : Lengths) (q : Ready ws ns bs k) where
                     rw (a, h) (rest_placed (s + i) (c - i) g.run (omega (arith, d)));
                 lower = let w : highest ρ others ≤ highest ρ (node_entries_of ns (s + i) (c - i)) = rw one_and_others (omega arith) in omega (arith, w, g.lower);
               }
+
+-- the container of a kind below a function's, where none is a List
+or_list : (kind : ℕ) → kind < 11 → result_unwrap_or (container_of kind) ComplexSort.List ≡ op_of_kind kind
+unfolding container_of
+or_list zero l = refl
+or_list (suc zero) l = refl
+or_list (suc (suc zero)) l = refl
+or_list (suc (suc (suc zero))) l = refl
+or_list (suc (suc (suc (suc zero)))) l = refl
+or_list (suc (suc (suc (suc (suc zero))))) l = refl
+or_list (suc (suc (suc (suc (suc (suc zero)))))) l = refl
+or_list (suc (suc (suc (suc (suc (suc (suc zero))))))) l = refl
+or_list (suc (suc (suc (suc (suc (suc (suc (suc zero)))))))) l = refl
+or_list (suc (suc (suc (suc (suc (suc (suc (suc (suc zero))))))))) l = refl
+or_list (suc (suc (suc (suc (suc (suc (suc (suc (suc (suc zero)))))))))) l = refl
+or_list (suc (suc (suc (suc (suc (suc (suc (suc (suc (suc (suc k))))))))))) l = absurd (omega (arith, l))
+
+pub op_or_list :
+    (kind : ℕ) (r : Result ComplexSort NoContainer) → r ≡ container_of kind → kind < 11 → (op : ComplexSort)
+    → op ≡ result_unwrap_or r ComplexSort.List → op ≡ op_of_kind kind
+op_or_list kind r e l op f = f ∙ ap (λ y. result_unwrap_or y ComplexSort.List) e ∙ or_list kind l

@@ -6,18 +6,18 @@ ghost use Rattle.std.proofs.Math.Option.{some};
 ghost use Rattle.resolved_sort.specs.Storage.{function_kind, max_arguments, row_words};
 ghost use Rattle.unification.specs.Inner.Term.{head_of, parts_of};
 ghost use Rattle.unification.specs.Term.{Shape, kind_head, same_head};
-ghost use Rattle.unification.specs.Nodes.{node_entries_at, op_of_kind, node_at, node_entry_at, binding_of};
+ghost use Rattle.unification.specs.Nodes.{node_entries_at, op_of_kind, node_at, node_entry_at, binding_of, bound_of};
 ghost use Rattle.unification.specs.Unify.{of_test, follow, occurs as occursIn, deep};
 ghost use Rattle.unification.specs.Checked.{Placed};
 ghost use Rattle.unification.specs.Resolve.{with_counts};
-ghost use Rattle.infer_nodes.specs.Inner.Bound.{bound_of, bound_to, BindsPass};
+ghost use Rattle.infer_nodes.specs.Inner.Bound.{bound_to, BindsPass};
 ghost use Rattle.infer_nodes.specs.Inner.Parts.{NodesReady, var_at, var_by, number_by, SmallCount, RowAt};
 
 use resolved_sort::{
     ComplexSort, Counts, DEF_KIND, ENTRIES_AT, FIRST_CONTAINER, FUNCTION_KIND, ROW_WORDS, Run,
 };
 use unification::{
-    FREE_WORD, InferSort, InferSortId, Lengths, NODE_ENTRIES_AT, NodeId, Place, SortVar,
+    InferSort, InferSortId, Lengths, NODE_ENTRIES_AT, NodeId, Place, SortVar, binding_of,
 };
 use words::word;
 
@@ -41,18 +41,13 @@ pub fn with_counts(lengths: Lengths, counts: Counts) -> Lengths
     }
 }
 
-// The container constructor of a kind.
-// kept: no TryFrom: node has told functions and variables apart before, and no checked node is below a List.
+// The container constructor of a kind. A kind below the containers' says List: that there is none is check 5's to show.
+#[tactic(auto, using(crate::proofs::Ways::op_or_list))]
 fn op_of_kind(kind: u16) -> ComplexSort
+    requires { kind < function_kind }
     ensures { result ≡ op_of_kind kind }
 {
-    match kind {
-        0..=6 => ComplexSort::List,
-        7 => ComplexSort::Set,
-        8 => ComplexSort::FSet,
-        9 => ComplexSort::Bag,
-        _ => ComplexSort::FBag,
-    }
+    ComplexSort::try_from(kind).unwrap_or(ComplexSort::List)
 }
 
 // What a node says.
@@ -267,11 +262,7 @@ impl Bindings<'_, '_> {
     fn binding(&self, var: SortVar) -> Option<InferSortId>
         ensures { bound_of result ≡ binding_of (get_or self.now.binds.now var.0 0) }
     {
-        let place = word(self.binds, var.0 as usize);
-        if place == FREE_WORD {
-            return None;
-        }
-        Some(InferSortId(place))
+        binding_of(word(self.binds, var.0 as usize))
     }
 
     // What the variable at a place is bound to. A place without a variable is as one that is free.

@@ -1,5 +1,6 @@
 -- The laws of the solver's search.
 -- lists and checks: what is in a list, and what the checks of a call give
+pub mod NoKinds
 pub mod Members
 pub mod RowsLent
 pub mod Accepted

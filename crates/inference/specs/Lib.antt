@@ -1,5 +1,6 @@
 -- The solver, in the order of document 01; then what its laws speak of.
 pub mod Constraints
+pub mod Kinds
 pub mod Measure
 pub mod Search
 pub mod Names

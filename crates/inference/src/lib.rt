@@ -3,6 +3,7 @@
 #![tactic(auto)]
 
 ghost use Rattle.std.specs.Prelude.{◌≡◌, Ok};
+ghost use Rattle.inference.specs.Kinds.{kind_of_name, kind_of_literal};
 ghost use Rattle.inference.specs.SolveEntry.{code_solved};
 
 use resolved_sort::{Counts, Run, SortId};
@@ -22,11 +23,52 @@ pub enum NameTarget {
     Builtin,
 }
 
+// The kinds of names and overloads, as their rows have them. Only an operation has a sort, in a word of its own.
+#[derive(Clone, Copy, Debug, PartialEq, Eq)]
+pub enum NameKind {
+    Variable = 1,
+    Op = 2,
+    Builtin = 3,
+}
+
 // The kind of a number literal: `0` is natural, every other literal positive.
 #[derive(Clone, Copy, Debug, PartialEq, Eq)]
 pub enum LitKind {
     Positive,
     Natural,
+}
+
+// A word that is no kind of a name, or of a literal.
+#[derive(Clone, Copy, Debug, PartialEq, Eq)]
+pub struct UnknownKind(pub u16);
+
+impl TryFrom<u16> for NameKind {
+    type Error = UnknownKind;
+
+    ghost try_from_gives = { λ word kind. kind ≡ kind_of_name word };
+
+    fn try_from(word: u16) -> Result<Self, UnknownKind> {
+        match word {
+            1 => Ok(NameKind::Variable),
+            2 => Ok(NameKind::Op),
+            3 => Ok(NameKind::Builtin),
+            _ => Err(UnknownKind(word)),
+        }
+    }
+}
+
+impl TryFrom<u16> for LitKind {
+    type Error = UnknownKind;
+
+    ghost try_from_gives = { λ word kind. kind ≡ kind_of_literal word };
+
+    fn try_from(word: u16) -> Result<Self, UnknownKind> {
+        match word {
+            0 => Ok(LitKind::Positive),
+            1 => Ok(LitKind::Natural),
+            _ => Err(UnknownKind(word)),
+        }
+    }
 }
 
 // One overload of a name: what it resolves to, and the place of its sort.

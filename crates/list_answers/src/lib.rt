@@ -11,7 +11,7 @@ ghost use Rattle.list_answers.specs.Answer.{lines_under, told_text, answer_text}
 ghost use Rattle.list_answers.specs.Inner.Answer.{Tellable, told_of};
 
 use inference::{MAX_COMPONENTS, Verdict};
-use list_call::{copied, count_of, length_of};
+use list_call::{count_of, length_of};
 use list_memory::{
     LIST_CHOICE_WORDS, LIST_CHOICES_AT, LIST_MEASURE_AT, LIST_SORTS_AT, LIST_TYPING_AT,
     LIST_TYPING_WORDS, LIST_WORDS, Slice, Table,
@@ -22,6 +22,7 @@ use resolved_sort::{Refusal, SORT_WORDS};
 use solve_outputs::Handout;
 use sort_interner::Sorts;
 use text_out::Out;
+use words::copied;
 
 // What stands under the line of a verdict: under a typing its lines, and under each the sorts made.
 #[tactic(auto, using(text_out::proofs::Outs::put_parts), unfolding(crate::specs::Answer::lines_under))]

@@ -4,38 +4,20 @@
 
 ghost use Rattle.std.specs.Prelude.{◌≡◌, ◌+◌, ◌*◌, ◌≤◌, length};
 ghost use Rattle.inference.specs.SolveEntry.{solve_entry};
-ghost use Rattle.list_memory.specs.Memory.{rows_at, most_rows, rows_given};
+ghost use Rattle.list_memory.specs.Memory.{rows_at, rows_given};
 ghost use Rattle.list_memory.specs.Layouts.{table_number, slice_number, layout_of};
 ghost use Rattle.solve_outputs.specs.Handout.{solve_left_with, SameHandout};
-ghost use Rattle.words.specs.Words.{part};
 ghost use Rattle.list_call.specs.Lists.{call_count, told_or, length_lent, slice_lent, given_in, call_by};
 
 use inference::Verdict;
 use list_memory::{
-    COUNTS_AT, COUNTS_TOLD_AT, DEFAULT_AT, LENT_AT, LENT_TOLD_AT, ROWS_AT, Slice, Table,
+    COUNTS_AT, COUNTS_TOLD_AT, DEFAULT_AT, LENT_AT, LENT_TOLD_AT, Slice, Table, rows_given,
 };
 use resolved_sort::{Refusal, SortId};
 use solve_checks::{Given, Problem};
 use solve_entries::solve;
 use solve_outputs::Handout;
 use words::word;
-
-// A copy of a slice of the list, as long as its ceiling.
-pub fn copied<const N: usize>(list: &[u16], at: usize) -> [u16; N]
-    requires { at + N ≤ length list.now }
-    ensures { result ≡ part at N list.now }
-{
-    let mut words = [0; N];
-    words.copy_from_slice(&list[at..at + N]);
-    words
-}
-
-// The rows given of a table.
-pub fn rows_given(list: &[u16], table: Table) -> usize
-    ensures { (result ≡ rows_given list.now (table_number table)) × (result ≤ most_rows) }
-{
-    word(list, ROWS_AT + table.number()) as usize
-}
 
 // The count of a table in the call.
 #[tactic(auto, unfolding(crate::specs::Lists::call_count))]
@@ -46,7 +28,7 @@ pub fn count_of(list: &[u16], table: Table) -> u16
     if word(list, COUNTS_TOLD_AT + k) == 1 {
         return word(list, COUNTS_AT + k);
     }
-    word(list, ROWS_AT + k)
+    rows_given(list, table)
 }
 
 // The counts of the call, and the default sort.
@@ -100,7 +82,7 @@ fn lend(list: &[u16], slice: Slice, table: Table) -> &[u16]
     let layout = table.layout();
     let start = layout.start as usize;
     let width = layout.width as usize;
-    let words = width * rows_given(list, table);
+    let words = width * (rows_given(list, table) as usize);
     let top = width * (layout.ceiling as usize);
     let end = start + length_of(list, slice, words, top);
     &list[start..end]

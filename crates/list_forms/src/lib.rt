@@ -20,10 +20,10 @@ ghost use Rattle.list_forms.specs.Lines.{disjunction_plan, overload_row, overloa
 ghost use Rattle.list_forms.specs.Lines.{entries_plan, constraint_plan, pad_plan, told_line, count_plan, lend_plan};
 ghost use Rattle.list_forms.specs.Lines.{plan_of, asks_other};
 
-use inference::{LitKind, MAX_CONSTRAINTS};
+use inference::{LitKind, MAX_CONSTRAINTS, NameKind};
 use list_memory::{
     COUNTS_AT, COUNTS_TOLD_AT, DEFAULT_AT, Form, LAST_AT, LENT_AT, LENT_TOLD_AT, LIST_BINDS_AT,
-    LIST_CONSTRAINTS_AT, LIST_WORDS, LastConstraint, MAX_NAMES, ROWS_AT, Slice, Table,
+    LIST_CONSTRAINTS_AT, LIST_WORDS, LastConstraint, MAX_NAMES, Slice, Table, rows_given,
 };
 use list_tokens::{Keyword, Token};
 use problem_words::ConstraintKind;
@@ -88,15 +88,6 @@ pub enum Item {
     Place,
     Container,
     Literal,
-}
-
-// The kinds of names and overloads in their rows.
-// kept: beside NameTarget, whose Op holds a sort: a row has the kind and the sort as two words.
-#[derive(Clone, Copy, Debug, PartialEq, Eq)]
-pub enum Target {
-    Variable = 1,
-    Op = 2,
-    Builtin = 3,
 }
 
 fn is_fixed_sort(keyword: Keyword) -> bool
@@ -386,13 +377,6 @@ impl<'a> Line<'a> {
         word(list, i)
     }
 
-    // The rows given of a table.
-    fn rows_given(&self, table: Table) -> u16
-        ensures { result ≡ rows_given self.now.list.now (table_number table) }
-    {
-        self.list_word(ROWS_AT + table.number())
-    }
-
     // Word i of the last constraint's row grows by n, where its line is of a kind and the row is kept.
     #[tactic(auto, unfolding(crate::specs::Plans::grown))]
     fn grown(&self, last: LastConstraint, i: usize, n: u16) -> Option<Put>
@@ -402,7 +386,7 @@ impl<'a> Line<'a> {
         if self.list_word(LAST_AT) != u16::from(last) {
             return None;
         }
-        let rows = self.rows_given(Table::Constraints) as usize;
+        let rows = rows_given(self.list, Table::Constraints) as usize;
         if rows == 0 || MAX_CONSTRAINTS < rows {
             return None;
         }
@@ -417,10 +401,10 @@ impl<'a> Line<'a> {
         ensures { result ≡ is_next self.now.list.now token table }
     {
         match (token, table) {
-            (Token::Sort(n), Table::Sorts) => n == self.rows_given(Table::Sorts),
-            (Token::Node(n), Table::Nodes) => n == self.rows_given(Table::Nodes),
-            (Token::Var(n), Table::Vars) => n == self.rows_given(Table::Vars),
-            (Token::Expr(n), Table::Exprs) => n == self.rows_given(Table::Exprs),
+            (Token::Sort(n), Table::Sorts) => n == rows_given(self.list, Table::Sorts),
+            (Token::Node(n), Table::Nodes) => n == rows_given(self.list, Table::Nodes),
+            (Token::Var(n), Table::Vars) => n == rows_given(self.list, Table::Vars),
+            (Token::Expr(n), Table::Exprs) => n == rows_given(self.list, Table::Exprs),
             _ => false,
         }
     }
@@ -431,7 +415,7 @@ impl<'a> Line<'a> {
         ensures { result ≡ function_plan self.now.list.now self.now.words.now table entries }
     {
         let range = self.word_at(self.words.len().saturating_sub(1));
-        let start = self.rows_given(entries);
+        let start = rows_given(self.list, entries);
         let arguments = saturated(self.words.len().saturating_sub(5));
         Plan {
             run: Some(Run {
@@ -558,7 +542,7 @@ impl<'a> Line<'a> {
     fn bound_plan(&self, var: SortVar, place: InferSortId) -> Result<Plan, Form>
         ensures { result ≡ bound_plan self.now.list.now var.0 place.0 }
     {
-        if self.rows_given(Table::Vars) <= var.0 {
+        if rows_given(self.list, Table::Vars) <= var.0 {
             return Err(Form::Unbound);
         }
         if VARS <= var.0 {
@@ -627,7 +611,7 @@ impl<'a> Line<'a> {
     fn name_plan(&self) -> Result<Plan, Form>
         ensures { result ≡ name_plan self.now.list.now self.now.words.now }
     {
-        if NAMES <= self.rows_given(Table::Names) {
+        if NAMES <= rows_given(self.list, Table::Names) {
             return Err(Form::Names);
         }
         if self.fits(&[
@@ -637,7 +621,7 @@ impl<'a> Line<'a> {
         ]) {
             return Ok(row_plan(
                 Table::Names,
-                [self.word_at(1), Target::Variable as u16, 0, 0, 0],
+                [self.word_at(1), NameKind::Variable as u16, 0, 0, 0],
             ));
         }
         if self.fits(&[
@@ -647,7 +631,7 @@ impl<'a> Line<'a> {
         ]) {
             return Ok(row_plan(
                 Table::Names,
-                [self.word_at(1), Target::Builtin as u16, 0, 0, 0],
+                [self.word_at(1), NameKind::Builtin as u16, 0, 0, 0],
             ));
         }
         if self.fits(&[
@@ -658,7 +642,7 @@ impl<'a> Line<'a> {
         ]) {
             return Ok(row_plan(
                 Table::Names,
-                [self.word_at(1), Target::Op as u16, self.word_at(3), 0, 0],
+                [self.word_at(1), NameKind::Op as u16, self.word_at(3), 0, 0],
             ));
         }
         if self.fits(&[
@@ -733,7 +717,7 @@ impl<'a> Line<'a> {
             Form::Disjunction,
         )?;
         let kind = ConstraintKind::Disjunction as u16;
-        let first = self.rows_given(Table::Overloads);
+        let first = rows_given(self.list, Table::Overloads);
         let row = [kind, self.word_at(1), self.word_at(2), first, 0];
         Ok(constraint_row(row, LastConstraint::Disjunction))
     }
@@ -758,14 +742,14 @@ impl<'a> Line<'a> {
             Item::Word(Keyword::Variable),
             Item::Place,
         ]) {
-            return Ok(self.overload_row([Target::Variable as u16, 0, self.word_at(2), 0, 0]));
+            return Ok(self.overload_row([NameKind::Variable as u16, 0, self.word_at(2), 0, 0]));
         }
         if self.fits(&[
             Item::Word(Keyword::Overload),
             Item::Word(Keyword::Builtin),
             Item::Place,
         ]) {
-            return Ok(self.overload_row([Target::Builtin as u16, 0, self.word_at(2), 0, 0]));
+            return Ok(self.overload_row([NameKind::Builtin as u16, 0, self.word_at(2), 0, 0]));
         }
         if self.fits(&[
             Item::Word(Keyword::Overload),
@@ -774,7 +758,7 @@ impl<'a> Line<'a> {
             Item::Place,
         ]) {
             return Ok(self.overload_row([
-                Target::Op as u16,
+                NameKind::Op as u16,
                 self.word_at(2),
                 self.word_at(3),
                 0,
@@ -799,7 +783,7 @@ impl<'a> Line<'a> {
         ensures { result ≡ join_plan self.now.list.now self.now.words.now }
     {
         expect(self.list_fits(Item::Place), Form::Join)?;
-        let first = self.rows_given(Table::Sources);
+        let first = rows_given(self.list, Table::Sources);
         let sources = saturated(self.words.len().saturating_sub(2));
         let row = [
             ConstraintKind::Join as u16,
@@ -890,7 +874,7 @@ impl<'a> Line<'a> {
             Item::Word(Keyword::Sorts),
             Item::Number,
         ]) {
-            let row = [DEF_KIND, self.rows_given(Table::Sorts), 0, 0, 0];
+            let row = [DEF_KIND, rows_given(self.list, Table::Sorts), 0, 0, 0];
             return Ok(rows_plan(Table::Sorts, self.word_at(2), 1, row));
         }
         if self.fits(&[

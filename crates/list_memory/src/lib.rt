@@ -3,6 +3,7 @@
 #![tactic(auto)]
 
 ghost use Rattle.std.specs.Prelude.{◌≡◌, ◌≤◌};
+ghost use Rattle.list_memory.specs.Memory.{rows_given};
 ghost use Rattle.list_memory.specs.Layouts.{table_number, slice_number, stage_number, last_number, layout_of};
 
 use inference::{
@@ -11,6 +12,7 @@ use inference::{
 };
 use resolved_sort::{ENTRIES_AT, MAX_ENTRIES, MAX_SORTS, SORT_WORDS};
 use unification::{MAX_NODE_ENTRIES, MAX_NODES, MAX_VARS, NODE_ENTRIES_AT, NODE_WORDS};
+use words::word;
 
 // What was expected of a line that is not of the format.
 #[derive(Clone, Copy, Debug, PartialEq, Eq)]
@@ -182,6 +184,13 @@ impl Table {
             ceiling: ceiling as u16,
         }
     }
+}
+
+// The rows given of a table.
+pub fn rows_given(list: &[u16], table: Table) -> u16
+    ensures { result ≡ rows_given list.now (table_number table) }
+{
+    word(list, ROWS_AT + table.number())
 }
 
 impl Slice {

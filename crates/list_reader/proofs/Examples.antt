@@ -7,6 +7,7 @@ use Prim.Native.String.{String}
 use Rattle.std.specs.Prelude.{Result, Ok, Err}
 use lib.ListN.{get_or, replicate, set}
 use Rattle.words.specs.Words.{zeros}
+use Rattle.resolved_sort.specs.Storage as Storage
 use Rattle.sort_text.specs.Parse.{same_bytes}
 use Rattle.sort_text.specs.Tokens.{run, past, skip}
 use Rattle.list_memory.specs.declared.Form.{Form}
@@ -53,7 +54,7 @@ unfolding told first zeros Layouts.layout_of Words.spelling Words.place_of Words
     Lines.comprehension_plan Lines.disjunction_plan Lines.overload_plan Lines.join_plan
     Lines.sources_plan Lines.entries_plan Lines.constraint_plan Lines.pad_plan Lines.plan_of
     Lines.asks_other Taking.one_more_word Taking.row_kept Taking.appended Taking.append_times
-    Taking.append_run Taking.carried Taking.bad_line Taking.fixed_rows Taking.begun Taking.bare_taken Taking.question_taken Taking.words_taken
+    Taking.append_run Taking.carried Taking.bad_line Storage.fixed_rows Taking.begun Taking.bare_taken Taking.question_taken Taking.words_taken
     Taking.other_taken Taking.answer_taken Taking.list_taken Taking.by_start Taking.line_taken
 lines_of_a_list = refl
 
@@ -70,6 +71,6 @@ unfolding told first zeros Layouts.layout_of Words.spelling Words.place_of Words
     Lines.comprehension_plan Lines.disjunction_plan Lines.overload_plan Lines.join_plan
     Lines.sources_plan Lines.entries_plan Lines.constraint_plan Lines.pad_plan Lines.plan_of
     Lines.asks_other Taking.one_more_word Taking.row_kept Taking.appended Taking.append_times
-    Taking.append_run Taking.carried Taking.bad_line Taking.fixed_rows Taking.begun Taking.bare_taken Taking.question_taken Taking.words_taken
+    Taking.append_run Taking.carried Taking.bad_line Storage.fixed_rows Taking.begun Taking.bare_taken Taking.question_taken Taking.words_taken
     Taking.other_taken Taking.answer_taken Taking.list_taken Taking.by_start Taking.line_taken
 lines_before_a_list = refl

@@ -17,7 +17,7 @@ use Rattle.list_memory.specs.Layouts.{layout_of, list_row_at}
 use Rattle.list_tokens.specs.declared.Token.{Token}
 use Rattle.list_forms.specs.Items.{word_at}
 use Rattle.list_forms.specs.Plans.{saturated}
-use Rattle.list_reader.specs.Taking.{appended, next_row, append_times, append_run, fixed_rows}
+use Rattle.list_reader.specs.Taking.{appended, next_row, append_times, append_run}
 
 -- a row has 5 words at most
 pub width_small : (k : Table) → (layout_of k).width ≤ 5
@@ -123,13 +123,3 @@ module _ (start : List ℕ) (k : Table) (t : List Token) (from to : ℕ) (ws : L
   pub running_all : to ≤ i → ws ≡ append_run (to - from) start k t from
   running_all h = sym (g.same ∙ ap (λ (m : ℕ). append_run m ws k t i) (omega arith) ∙ none_of_run ws k t i)
 
--- the first i of the fixed sorts stand there
-pub next_fixed :
-    (start ws : List ℕ) (i : ℕ) → ws ≡ fixed_rows i start → (us : List ℕ) → us ≡ set ws (list_sorts_at + row_words * i) i
-    → us ≡ fixed_rows (i + 1) start
-unfolding fixed_rows
-next_fixed start ws i g us e = e ∙ ap (λ (l : List ℕ). set l (list_sorts_at + row_words * i) i) g ∙ rw (add-one) refl
-
-pub none_fixed : (start : List ℕ) → start ≡ fixed_rows 0 start
-unfolding fixed_rows
-none_fixed start = refl

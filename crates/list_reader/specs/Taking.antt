@@ -9,7 +9,7 @@ use Rattle.std.proofs.lemmas.List.Edits.{sets}
 use Rattle.std.specs.List.{list_all}
 use Rattle.words.specs.Words.{zeros}
 use Rattle.sort_text.specs.Reading.{max_line}
-use Rattle.resolved_sort.specs.Storage.{row_words}
+use Rattle.resolved_sort.specs.Storage.{row_words, fixed_sorts, fixed_rows}
 use Rattle.unification.specs.Nodes.{free_word}
 use Rattle.list_memory.specs.declared.Form.{Form}
 use Rattle.list_memory.specs.declared.Heard.{Heard}
@@ -88,18 +88,10 @@ carried ws t p =
 unfoldable pub bad_line : List ℕ → Form → Taken
 bad_line ws f = taken (set ws stage_at (stage_number Stage.Bad)) (Err f)
 
--- the rows of the fixed six sorts, each of the kind that is its number: the first n of them
-abbrev pub fixed_sorts : ℕ
-fixed_sorts = 6
-
-unfoldable pub fixed_rows : ℕ → List ℕ → List ℕ
-fixed_rows zero ws = ws
-fixed_rows (suc n) ws = set (fixed_rows n ws) (list_sorts_at + row_words * n) n
-
 -- "The list has the fixed six sorts, the default sort Bool, and nothing else."
 unfoldable pub begun : List ℕ → List ℕ
 begun ws =
-    let six = fixed_rows fixed_sorts (zeros 0 memory_words ws) in
+    let six = fixed_rows list_sorts_at fixed_sorts (zeros 0 memory_words ws) in
     set (set (set six rows_at fixed_sorts) default_at 1) stage_at (stage_number Stage.Reading)
 
 -- `bare` "takes the fixed six sorts away; while there are six sorts and no entries"

@@ -7,16 +7,17 @@ ghost use Rattle.list_memory.specs.Layouts.{table_number, stage_number, list_row
 ghost use Rattle.list_tokens.specs.Tokens.{line_start};
 ghost use Rattle.list_reader.specs.Inner.Taking.{most_place, bad_marked};
 ghost use Rattle.list_reader.specs.Taking.{one_more_word, row_kept, appended, rows_taken};
-ghost use Rattle.list_reader.specs.Taking.{append_run, run_taken, put_taken, carried, fixed_sorts, fixed_rows, begun};
+ghost use Rattle.list_reader.specs.Taking.{append_run, run_taken, put_taken, carried, begun};
 ghost use Rattle.list_reader.specs.Taking.{bare_taken, question_taken, stage_is, words_taken, other_taken};
 ghost use Rattle.list_reader.specs.Taking.{answer_taken, list_taken, by_start, line_taken};
 
 use list_forms::{Item, Line, Plan, Put, Rows, Run, asks_other, fits, token_at, word_at};
 use list_memory::{
-    DEFAULT_AT, Form, Heard, LIST_SORTS_AT, LIST_WORDS, ROWS_AT, STAGE_AT, Stage, Table,
+    DEFAULT_AT, Form, Heard, LIST_SORTS_AT, LIST_WORDS, ROWS_AT, STAGE_AT, Stage, Table, rows_given,
 };
 use list_tokens::{Keyword, MOST_WORDS, Start, Token, printable, start_of, tokens_of};
-use resolved_sort::ROW_WORDS;
+use resolved_sort::{FIXED_SORTS, ROW_WORDS, Sort};
+use sort_interner::put_fixed_six;
 use sort_text::MAX_LINE;
 use unification::FREE_WORD;
 use words::{clear, copy, put};
@@ -51,20 +52,13 @@ impl List {
         self.words[STAGE_AT] = stage.into();
     }
 
-    // The rows given of a table.
-    fn rows_given(&self, table: Table) -> u16
-        ensures { result ≡ rows_given self.now.words (table_number table) }
-    {
-        self.words[ROWS_AT + table.number()]
-    }
-
     // A row put where the next row of a table is, below its ceiling.
     #[tactic(auto, using(crate::proofs::Rows::row_in_list), unfolding(crate::specs::Taking::row_kept))]
     fn keep(&mut self, table: Table, row: [u16; 5])
         ensures { self.new.words ≡ row_kept self.old.words table row }
     {
         let layout = table.layout();
-        let n = self.rows_given(table);
+        let n = rows_given(&self.words, table);
         if n < layout.ceiling {
             copy(
                 &mut self.words,
@@ -81,7 +75,7 @@ impl List {
     fn append(&mut self, table: Table, row: [u16; 5])
         ensures { self.new.words ≡ appended self.old.words table row }
     {
-        let n = self.rows_given(table);
+        let n = rows_given(&self.words, table);
         self.keep(table, row);
         self.words[ROWS_AT + table.number()] = n.saturating_add(1);
     }
@@ -147,24 +141,15 @@ impl List {
         self.take_put(plan.told);
     }
 
-    // The rows of the fixed six sorts, each of the kind that is its number.
-    fn put_fixed_sorts(&mut self)
-        ensures { self.new.words ≡ fixed_rows fixed_sorts self.old.words }
-    {
-        for sort in 0..FIXED_SORTS {
-            self.words[LIST_SORTS_AT + ROW_WORDS * (sort as usize)] = sort;
-        }
-    }
-
     // A new list: the fixed six sorts, the default sort Bool, and nothing else.
-    #[tactic(auto, unfolding(crate::specs::Taking::begun))]
+    #[tactic(auto, unfolding(crate::specs::Taking::begun, resolved_sort::specs::Storage::kind_flat))]
     fn begin(&mut self)
         ensures { self.new.words ≡ begun self.old.words }
     {
         clear(&mut self.words, 0, LIST_WORDS);
-        self.put_fixed_sorts();
+        put_fixed_six(&mut self.words, LIST_SORTS_AT);
         self.words[ROWS_AT] = FIXED_SORTS;
-        self.words[DEFAULT_AT] = BOOL_SORT;
+        self.words[DEFAULT_AT] = Sort::Bool.into();
         self.set_stage(Stage::Reading);
     }
 
@@ -173,8 +158,8 @@ impl List {
     fn bare(&mut self, t: &[Token]) -> Result<Heard, Form>
         ensures { bad_marked self.new.words result ≡ bare_taken self.old.words t.now }
     {
-        let sorts = self.rows_given(Table::Sorts);
-        let entries = self.rows_given(Table::Entries);
+        let sorts = rows_given(&self.words, Table::Sorts);
+        let entries = rows_given(&self.words, Table::Entries);
         if t.len() == 1 && sorts == FIXED_SORTS && entries == 0 {
             clear(&mut self.words, 0, ROW_WORDS * (FIXED_SORTS as usize));
             self.words[ROWS_AT] = 0;
@@ -301,8 +286,3 @@ impl List {
         }
     }
 }
-
-// Every list begins with so many sorts, of which Bool is the default.
-const FIXED_SORTS: u16 = 6;
-
-const BOOL_SORT: u16 = 1;

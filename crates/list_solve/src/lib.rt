@@ -10,11 +10,12 @@ ghost use Rattle.solve_outputs.specs.Handout.{SameHandout};
 ghost use Rattle.list_solve.specs.Inner.Asked.{list_answer, list_answer_of};
 
 use inference::{SCRATCH_WORDS, Verdict};
-use list_call::{copied, given_in, length_of, rows_given, solve_list};
-use list_memory::{LIST_BINDS_AT, LIST_NODES_AT, LIST_SCRATCH_AT, Slice, Table};
+use list_call::{given_in, length_of, solve_list};
+use list_memory::{LIST_BINDS_AT, LIST_NODES_AT, LIST_SCRATCH_AT, Slice, Table, rows_given};
 use resolved_sort::Refusal;
 use solve_outputs::Handout;
 use unification::{MAX_VARS, NODE_WORDS};
+use words::copied;
 
 // The solver asked about a list, with nodes, bindings and scratch of its own.
 pub fn ask(list: &[u16], sorts: &mut [u16], handout: &mut Handout<'_>) -> Result<Verdict, Refusal>
@@ -29,7 +30,7 @@ pub fn ask(list: &[u16], sorts: &mut [u16], handout: &mut Handout<'_>) -> Result
     let mut binds: [u16; MAX_VARS] = copied(list, LIST_BINDS_AT);
     let mut scratch: [u16; SCRATCH_WORDS] = copied(list, LIST_SCRATCH_AT);
     let nodes_end = length_of(list, Slice::Nodes, NODE_WORDS, NODE_WORDS);
-    let rows = rows_given(list, Table::Vars);
+    let rows = rows_given(list, Table::Vars) as usize;
     let binds_end = length_of(list, Slice::Bindings, rows, MAX_VARS);
     let scratch_end = length_of(list, Slice::Scratch, SCRATCH_WORDS, SCRATCH_WORDS);
     solve_list(

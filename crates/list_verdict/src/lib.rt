@@ -15,7 +15,7 @@ ghost use Rattle.list_verdict.specs.Text.{rows_text, argument_text};
 ghost use Rattle.list_verdict.specs.Inner.Room.{SizesOf};
 ghost use Rattle.list_verdict.specs.Inner.Row.{row_text};
 
-use inference::{ExprId, Verdict};
+use inference::{ExprId, NameKind, Verdict};
 use resolved_sort::{ENTRIES_AT, MAX_SORTS, Refusal, ResolvedSort, Run, SortId};
 use sort_interner::{Sorts, get};
 use sort_text::{MAX_LINE, op_word, sort_word};
@@ -280,20 +280,19 @@ impl SortTexts<'_> {
     }
 
     // What a name resolved to.
-    // kept: kinds by number, since the row is what the C interface hands out.
     #[tactic(auto, using(text_out::proofs::Outs::put_parts), unfolding(crate::specs::Text::target_text))]
     fn put_target(&self, kind: u16, id: SortId, out: &mut Out<'_>)
         ensures { out.new ≡ then_put out.old
             (target_text self.now.sorts.words.now self.now.sorts.counts.sorts kind id.0) }
     {
-        match kind {
-            1 => out.put_text(b", variable"),
-            2 => {
+        match NameKind::try_from(kind) {
+            Ok(NameKind::Variable) => out.put_text(b", variable"),
+            Ok(NameKind::Op) => {
                 out.put_text(b", op ");
                 self.put_sort_text(id, out);
             }
-            3 => out.put_text(b", builtin"),
-            _ => {}
+            Ok(NameKind::Builtin) => out.put_text(b", builtin"),
+            Err(_) => {}
         }
     }
 

@@ -19,8 +19,8 @@ use infer_nodes::node;
 use resolved_sort::{FIRST_CONTAINER, FUNCTION_KIND, MAX_ARGUMENTS, ROW_WORDS, Refusal, Run};
 use sort_checks::storage_within;
 use unification::{
-    FREE_WORD, InferSort, InferSortId, MAX_NODES, MAX_VARS, NODE_ENTRIES_AT, NODE_NUMBERS, NodeId,
-    Place, VARIABLE_KIND,
+    InferSort, InferSortId, MAX_NODES, MAX_VARS, NODE_ENTRIES_AT, NODE_NUMBERS, NodeId, Place,
+    VARIABLE_KIND, binding_of,
 };
 use words::word;
 
@@ -147,7 +147,7 @@ fn bindings_fine(binds: &[u16], v: usize, n: usize, m: usize) -> bool
 fn binding_fine(n: usize, m: usize, w: u16) -> bool
     ensures { result ≡ binding_fine n m (binding_of w) }
 {
-    w == FREE_WORD || is_place(n, m, InferSortId(w))
+    binding_of(w).is_none_or(|place| is_place(n, m, place))
 }
 
 // The flag at an index; past the end there is none.
@@ -213,7 +213,7 @@ fn settle_nodes(nodes: &[u16], m: usize, vars: &[bool], flags: &mut [bool])
 fn binding_settled(flags: &[bool], w: u16) -> bool
     ensures { result ≡ binding_settled flags.now (binding_of w) }
 {
-    w == FREE_WORD || place_settled(flags, InferSortId(w))
+    binding_of(w).is_none_or(|place| place_settled(flags, place))
 }
 
 // The variables, by the nodes.

@@ -11,12 +11,11 @@ use borrow.Author.Tests.{le-leb}
 use Rattle.resolved_sort.specs.declared.Run.{Run}
 use Rattle.resolved_sort.specs.Tree.{Tree, same, family, level}
 use Rattle.resolved_sort.specs.Interning.{member, distinct}
-use Rattle.resolved_sort.specs.Storage.{full_length, kind_at, part_at, start_at, count_at, words_at, trees, resolved}
+use Rattle.resolved_sort.specs.Storage.{full_length, kind_at, part_at, start_at, count_at, words_at, trees, resolved, fixed_sorts, fixed_rows}
 use Rattle.resolved_sort.specs.Checks.{all_below, fixed_six, parts_below, row_fine_of, rows_fine, no_two_equal}
 use Rattle.sort_text.specs.Postfix.{sixth}
 use Rattle.sort_text.proofs.Readable.{and_both}
 use Rattle.sort_reader.proofs.Entry.{tree_of_six}
-use Rattle.pair_line.specs.Inner.Room.{put_six}
 use Rattle.pair_line.specs.Room.{Begun}
 
 module _ (ws : List ℕ) (l : full_length ≤ length ws) where
@@ -58,8 +57,8 @@ module _ (ws : List ℕ) (l : full_length ≤ length ws) where
   long_4 = long w3 16 4 long_3
 
   -- each kind is its number
-  kinds : (k : ℕ) → k < 6 → kind_at (put_six ws) k ≡ k
-  unfolding put_six
+  kinds : (k : ℕ) → k < 6 → kind_at (fixed_rows 0 fixed_sorts ws) k ≡ k
+  unfolding fixed_rows
   kinds zero h =
       stays w4 20 0 5 0 (omega arith) (stays w3 16 0 4 0 (omega arith) (stays w2 12 0 3 0 (omega arith)
       (stays w1 8 0 2 0 (omega arith) (stays w0 4 0 1 0 (omega arith) (get_or-set_same ws 0 0 0
@@ -74,7 +73,7 @@ module _ (ws : List ℕ) (l : full_length ≤ length ws) where
   kinds (suc (suc (suc (suc (suc zero))))) h = get_or-set_same w4 20 5 0 (omega (arith, long_4))
   kinds (suc (suc (suc (suc (suc (suc k)))))) h = absurd (omega (arith, h))
 
-  eqb_itself : (k : ℕ) → k < 6 → eqb (kind_at (put_six ws) k) k ≡ true
+  eqb_itself : (k : ℕ) → k < 6 → eqb (kind_at (fixed_rows 0 fixed_sorts ws) k) k ≡ true
   eqb_itself zero h = ap (λ x. eqb x 0) (kinds 0 h)
   eqb_itself (suc zero) h = ap (λ x. eqb x 1) (kinds 1 h)
   eqb_itself (suc (suc zero)) h = ap (λ x. eqb x 2) (kinds 2 h)
@@ -83,7 +82,7 @@ module _ (ws : List ℕ) (l : full_length ≤ length ws) where
   eqb_itself (suc (suc (suc (suc (suc zero))))) h = ap (λ x. eqb x 5) (kinds 5 h)
   eqb_itself (suc (suc (suc (suc (suc (suc k)))))) h = absurd (omega (arith, h))
 
-  is_six : fixed_six (put_six ws) 6 ≡ true
+  is_six : fixed_six (fixed_rows 0 fixed_sorts ws) 6 ≡ true
   unfolding fixed_six all_below
   is_six = rw (
     eqb_itself 0 (omega arith),
@@ -106,15 +105,15 @@ module _ (ws : List ℕ) (l : full_length ≤ length ws) where
   fine_at (suc (suc (suc (suc (suc zero))))) i part us h run = refl
   fine_at (suc (suc (suc (suc (suc (suc k)))))) i part us h run = absurd (omega (arith, h))
 
-  row_fine : (k : ℕ) → k < 6 → row_fine_of (put_six ws) 0 k ≡ true
+  row_fine : (k : ℕ) → k < 6 → row_fine_of (fixed_rows 0 fixed_sorts ws) 0 k ≡ true
   unfolding row_fine_of
   row_fine k h =
-      ap (λ x. leb x 13 && parts_below (put_six ws) 0 k (resolved x (part_at (put_six ws) k)
-      (record { start = start_at (put_six ws) k; count = count_at (put_six ws) k }))) (kinds k h)
-      ∙ and_both (leb k 13) _ (le-leb k 13 (omega (arith, h))) (fine_at k k (part_at (put_six ws) k) (put_six ws) h
-      (record { start = start_at (put_six ws) k; count = count_at (put_six ws) k }))
+      ap (λ x. leb x 13 && parts_below (fixed_rows 0 fixed_sorts ws) 0 k (resolved x (part_at (fixed_rows 0 fixed_sorts ws) k)
+      (record { start = start_at (fixed_rows 0 fixed_sorts ws) k; count = count_at (fixed_rows 0 fixed_sorts ws) k }))) (kinds k h)
+      ∙ and_both (leb k 13) _ (le-leb k 13 (omega (arith, h))) (fine_at k k (part_at (fixed_rows 0 fixed_sorts ws) k) (fixed_rows 0 fixed_sorts ws) h
+      (record { start = start_at (fixed_rows 0 fixed_sorts ws) k; count = count_at (fixed_rows 0 fixed_sorts ws) k }))
 
-  all_fine : rows_fine (put_six ws) 6 0 ≡ true
+  all_fine : rows_fine (fixed_rows 0 fixed_sorts ws) 6 0 ≡ true
   unfolding rows_fine all_below
   all_fine = rw (
     row_fine 0 (omega arith),
@@ -126,26 +125,26 @@ module _ (ws : List ℕ) (l : full_length ≤ length ws) where
     row_fine 5 (omega arith),
   )
 
-  one_more : (n : ℕ) (T : List Tree) → n < 6 → trees (put_six ws) n ≡ T → trees (put_six ws) (suc n) ≡ T ++ (sixth n ∷ [])
+  one_more : (n : ℕ) (T : List Tree) → n < 6 → trees (fixed_rows 0 fixed_sorts ws) n ≡ T → trees (fixed_rows 0 fixed_sorts ws) (suc n) ≡ T ++ (sixth n ∷ [])
   unfolding trees
-  one_more n T h e = ap₂ (λ (U : List Tree) (t : Tree). U ++ (t ∷ [])) e (tree_of_six (trees (put_six ws) n) (words_at (put_six ws) n) n h (kinds n h))
+  one_more n T h e = ap₂ (λ (U : List Tree) (t : Tree). U ++ (t ∷ [])) e (tree_of_six (trees (fixed_rows 0 fixed_sorts ws) n) (words_at (fixed_rows 0 fixed_sorts ws) n) n h (kinds n h))
 
-  no_trees : trees (put_six ws) 0 ≡ []
+  no_trees : trees (fixed_rows 0 fixed_sorts ws) 0 ≡ []
   unfolding trees
   no_trees = refl
 
-  six_trees : trees (put_six ws) 6 ≡ sixth 0 ∷ sixth 1 ∷ sixth 2 ∷ sixth 3 ∷ sixth 4 ∷ sixth 5 ∷ []
+  six_trees : trees (fixed_rows 0 fixed_sorts ws) 6 ≡ sixth 0 ∷ sixth 1 ∷ sixth 2 ∷ sixth 3 ∷ sixth 4 ∷ sixth 5 ∷ []
   six_trees =
       one_more 5 _ (omega arith) (one_more 4 _ (omega arith) (one_more 3 _ (omega arith) (one_more 2 _ (omega arith)
       (one_more 1 _ (omega arith) (one_more 0 [] (omega arith) no_trees)))))
 
-  no_two_equal_lem : no_two_equal (put_six ws) 6 ≡ true
+  no_two_equal_lem : no_two_equal (fixed_rows 0 fixed_sorts ws) 6 ≡ true
   unfolding no_two_equal distinct member same family level
   no_two_equal_lem = ap distinct six_trees
 
   -- "the first six sorts are the fixed six"
-  pub six_begun : Begun (put_six ws) 6 0 0
-  unfolding put_six
+  pub six_begun : Begun (fixed_rows 0 fixed_sorts ws) 6 0 0
+  unfolding fixed_rows
   six_begun =
       record {
         checked = record { long = long w4 20 5 long_4; sorts = omega arith; entries = omega arith; fine = all_fine; differ = no_two_equal_lem };

@@ -13,14 +13,13 @@ ghost use Rattle.sort_text.specs.Writing.{write_left};
 ghost use Rattle.sort_text.specs.Reading.{max_line};
 ghost use Rattle.text_out.specs.Outs.{then_put};
 ghost use Rattle.pair_line.specs.Room.{Begun, BoundRoom};
-ghost use Rattle.pair_line.specs.Inner.Room.{put_six, BothRead, RoomGrows, SortOrPut, LineLeft};
+ghost use Rattle.pair_line.specs.Inner.Room.{BothRead, RoomGrows, SortOrPut, LineLeft};
 ghost use Rattle.pair_line.specs.Inner.Answers.{steps_text, wrong_text, length_check, LineTested};
 ghost use Rattle.pair_line.specs.Answers.{printed, output_left, pair_left, single_left};
 
-use resolved_sort::{Counts, Refusal, SORT_WORDS, SortId, Steps};
+use resolved_sort::{Counts, FIXED_SORTS, Refusal, SORT_WORDS, SortId, Steps};
 use sort_bounds::bound;
-use sort_interner::SortInterner;
-use sort_lexer::unread;
+use sort_interner::{SortInterner, put_fixed_six};
 use sort_order::{is_materializable, partial_cmp, widening_distance};
 use sort_reader::read_line;
 use sort_recogniser::recognise;
@@ -28,26 +27,13 @@ use sort_text::{MAX_LINE, Unread};
 use sort_writer::put_text;
 use std::cmp::Ordering;
 use text_out::Out;
+use words::rest;
 
 // Lines of the input that one line of output answers: a pair; or a line alone at the end of the input.
 #[derive(Clone, Copy)]
 pub enum Gathered<'a> {
     Pair(&'a [u8], &'a [u8]),
     Alone(&'a [u8]),
-}
-
-// The fixed six sorts.
-#[tactic(auto, unfolding(crate::specs::Inner::Room::put_six))]
-fn six(sorts: &mut [u16])
-    requires { full_length ≤ length sorts.old }
-    ensures { sorts.new ≡ put_six sorts.old }
-{
-    sorts[0] = 0;
-    sorts[4] = 1;
-    sorts[8] = 2;
-    sorts[12] = 3;
-    sorts[16] = 4;
-    sorts[20] = 5;
 }
 
 // The sign of an order.
@@ -136,7 +122,7 @@ fn put_unread(why: Unread, line: &[u8], out: &mut Out)
         Unread::Refused(refusal) => out.put_number(refusal.code()),
         Unread::NotASort(at) => {
             out.put_text(b"20:");
-            out.put_text(unread(line, at));
+            out.put_text(rest(line, at));
         }
         Unread::NoRoom => out.put_text(b"15"),
     }
@@ -182,11 +168,11 @@ fn put_pair(first: &[u8], second: &[u8], out: &mut Out)
     ensures { out.new ≡ then_put out.old (pair_of first.now second.now) }
 {
     let mut words = [0u16; SORT_WORDS];
-    six(&mut words);
+    put_fixed_six(&mut words, 0);
     let mut sorts = SortInterner {
         words: &mut words,
         counts: Counts {
-            sorts: 6,
+            sorts: FIXED_SORTS,
             entries: 0,
         },
     };

@@ -3,7 +3,7 @@
 use Rattle.std.specs.Prelude.{[], ◌∷◌, ℕ, get_or, Result, Ok, Err}
 use Rattle.problem_words.specs.declared.ConstraintKind.{ConstraintKind}
 use Rattle.problem_words.specs.declared.ConstraintKind.TheVariants.{Sub, Lit, Disjunction, Comprehension, Join}
-use Rattle.problem_words.specs.declared.UnknownKind.{UnknownKind}
+use Rattle.inference.specs.declared.UnknownKind.{UnknownKind}
 
 unfoldable pub kind_of : ℕ → Result ConstraintKind UnknownKind
 kind_of n =

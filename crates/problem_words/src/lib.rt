@@ -7,7 +7,10 @@ ghost use Rattle.inference.specs.Constraints.{overload_at, lit_kind, target, con
 ghost use Rattle.search_state.specs.Inner.Memory.{overloads_at, source_at};
 ghost use Rattle.problem_words.specs.Kinds.{kind_of};
 
-use inference::{CONSTRAINT_WORDS, Constraint, ExprId, LitKind, NameTarget, OVERLOAD_WORDS};
+use inference::{
+    CONSTRAINT_WORDS, Constraint, ExprId, LitKind, NameKind, NameTarget, OVERLOAD_WORDS,
+    UnknownKind,
+};
 use resolved_sort::{Run, SortId};
 use search_state::{OVERLOADS_AT, SOURCES_AT};
 use unification::InferSortId;
@@ -22,10 +25,6 @@ pub enum ConstraintKind {
     Comprehension,
     Join,
 }
-
-// A word that is no kind of constraint.
-#[derive(Clone, Copy, Debug, PartialEq, Eq)]
-pub struct UnknownKind(pub u16);
 
 impl TryFrom<u16> for ConstraintKind {
     type Error = UnknownKind;
@@ -58,26 +57,23 @@ pub fn overload_place(lists: &[u16], i: u16) -> InferSortId
     InferSortId(word(lists, OVERLOADS_AT + (OVERLOAD_WORDS * (i as usize) + 2)))
 }
 
-// The kind of a literal. Every kind above 0 says natural: that it is 1 is check 9's to show.
-// kept: a function and no From, since neither a word nor LitKind is a type of this crate.
-fn lit_kind(kind: u16) -> LitKind
-    ensures { result ≡ lit_kind kind }
+// The kind of a literal. A word that is no kind says natural: that it is one is check 9's to show.
+#[tactic(auto, using(crate::proofs::Said::literal_said))]
+fn lit_kind(word: u16) -> LitKind
+    ensures { result ≡ lit_kind word }
 {
-    match kind {
-        0 => LitKind::Positive,
-        _ => LitKind::Natural,
-    }
+    LitKind::try_from(word).unwrap_or(LitKind::Natural)
 }
 
-// What a name stands for. Every kind but 1 and 2 says built-in: that it is 3 is for checks 8 and 9 to show.
+// What a name stands for. A word that is no kind says built-in: that it is one is for checks 8 and 9 to show.
 // kept: a function and no From, since two words of a row say it, and NameTarget is no type of this crate.
 pub fn name_target(kind: u16, sort: u16) -> NameTarget
     ensures { result ≡ target kind sort }
 {
-    match kind {
-        1 => NameTarget::Variable,
-        2 => NameTarget::Op(SortId(sort)),
-        _ => NameTarget::Builtin,
+    match NameKind::try_from(kind).unwrap_or(NameKind::Builtin) {
+        NameKind::Variable => NameTarget::Variable,
+        NameKind::Op => NameTarget::Op(SortId(sort)),
+        NameKind::Builtin => NameTarget::Builtin,
     }
 }
 

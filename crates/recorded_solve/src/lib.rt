@@ -14,7 +14,6 @@
 #![tactic(auto)]
 
 ghost use Rattle.std.specs.Prelude.{◌≡◌, ◌+◌, ◌≤◌, length, IfSome};
-ghost use Rattle.words.specs.Words.{part};
 ghost use Rattle.replay.specs.Inner.Lines.{near_enough};
 ghost use Rattle.replay.specs.Inner.Numbers.{max_fields};
 ghost use Rattle.recorded_solve.specs.Inner.Slices.{held_counts_at, slice_start, count_held, counts_held};
@@ -29,7 +28,7 @@ use resolved_sort::{SORT_WORDS, SortId};
 use solve_checks::Given;
 use solve_entries::sort_solve;
 use unification::{MAX_VARS, NODE_WORDS};
-use words::{BIT_8, BIT_24, BIT_40, BIT_52, MOST_WORD, copy, word};
+use words::{BIT_8, BIT_24, BIT_40, BIT_52, MOST_WORD, copied, copy, word};
 
 // Where the slices stand in the words held, after the sorts, each at its ceiling (base names, which have none, have as
 // many rows as there are expressions); and after the scratch the counts, the last of which is the default sort.
@@ -228,16 +227,6 @@ fn counts_of(given: &[u16]) -> Given
         sources: count_at(given, 9),
         default: SortId(word(given, DEFAULT_AT)),
     }
-}
-
-// So many of the words given, from a word on.
-fn copied<const N: usize>(given: &[u16], at: usize) -> [u16; N]
-    requires { at + N ≤ length given.now }
-    ensures { result ≡ part at N given.now }
-{
-    let mut words = [0; N];
-    copy(&mut words, 0, given, at, N);
-    words
 }
 
 impl Slices {

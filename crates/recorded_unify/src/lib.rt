@@ -18,7 +18,7 @@ use replay::{MAX_WORDS, Recorded, Verdict, store};
 use resolved_sort::{ENTRIES_AT, ROW_WORDS, SORT_WORDS};
 use unification::{Lengths, MAX_VARS};
 use unify_entries::sort_unify;
-use words::{MOST_WORD, copy, put};
+use words::{MOST_WORD, copied, copy, put};
 
 // The parts of a list stand one after another in its words: sorts and their entries as the entry takes them, nodes and
 // theirs, the bindings, and at last the bindings that the next question leaves.
@@ -307,9 +307,7 @@ impl RecordedUnify {
     fn bindings(&self) -> [u16; MAX_VARS]
         ensures { result ≡ bindings_in self.now.words }
     {
-        let mut bindings = [0u16; MAX_VARS];
-        copy(&mut bindings, 0, &self.words, BINDINGS_AT, MAX_VARS);
-        bindings
+        copied(&self.words, BINDINGS_AT)
     }
 
     // The next question leaves the bindings as they are, where no line says otherwise.

@@ -37,10 +37,10 @@ pub use listing::Listed;
 fn related_numbers(sort: Sort, up: bool) -> Listed
     ensures { places result ≡ related_places up (primitive sort) }
 {
-    let pos = number_place(Sort::Pos);
-    let nat = number_place(Sort::Nat);
-    let int = number_place(Sort::Int);
-    let real = number_place(Sort::Real);
+    let pos = InferSortId::from(Sort::Pos);
+    let nat = InferSortId::from(Sort::Nat);
+    let int = InferSortId::from(Sort::Int);
+    let real = InferSortId::from(Sort::Real);
     match (sort, up) {
         (Sort::Pos, true) => Listed::of(&[nat, int, real]),
         (Sort::Nat, true) => Listed::of(&[int, real]),
@@ -50,14 +50,6 @@ fn related_numbers(sort: Sort, up: bool) -> Listed
         (Sort::Real, false) => Listed::of(&[int, nat, pos]),
         _ => Listed::of(&[]),
     }
-}
-
-// The place of a fixed sort: Bool, Pos, Nat, Int and Real are the sorts 1 to 5.
-#[tactic(auto, unfolding(resolved_sort::specs::Storage::kind_flat))]
-fn number_place(sort: Sort) -> InferSortId
-    ensures { result ≡ record { 0 = kind_flat (primitive sort) } }
-{
-    InferSortId(1 + sort as u16)
 }
 
 // The container constructor strictly above or below `op` in the finiteness ordering `FSet <= Set`, `FBag <= Bag`.
@@ -224,7 +216,7 @@ impl Arena<'_> {
         };
         let id = interner.generic(related_op, subsort)?;
         self.lengths = with_counts(self.lengths, interner.counts);
-        Ok(Listed::of(&[InferSortId(id.0)]))
+        Ok(Listed::of(&[InferSortId::from(id)]))
     }
 
     // A container node: the related one is a node.

@@ -12,7 +12,7 @@ ghost use Rattle.replay.specs.Inner.Lines.{near_enough, words_kept, store_from, 
 use line_input::Lines;
 use std::io;
 use std::io::{Read, Write};
-use words::{MOST_WORD, put};
+use words::{MOST_WORD, put, rest};
 
 // How many numbers a line has at most, and how many words of a list it gives at most.
 pub const MAX_FIELDS: usize = 18;
@@ -55,13 +55,6 @@ pub struct Tally {
     pub lines: u64,
     pub questions: u64,
     pub differ: u64,
-}
-
-// The line from a position on; past its end it is empty.
-fn rest(line: &[u8], at: usize) -> &[u8]
-    ensures { result.now ≡ drop at line.now }
-{
-    line.get(at..).unwrap_or(&[])
 }
 
 // How many digits a text starts with.

@@ -17,6 +17,7 @@ pub mod Fine
 pub mod Append
 pub mod Interned
 pub mod Twice
+pub mod Containers
 pub mod Pairs
 pub mod Unlikes
 pub mod Said

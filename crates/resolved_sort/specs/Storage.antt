@@ -1,9 +1,11 @@
 -- The lent sort storage: one list of 16-bit words. Rows of four words come first, kind, part, start and count, then the
 -- argument entries at a fixed place. A word past the end of the list counts as 0.
 use Rattle.std.specs.Prelude.{cond, List, [], ◌∷◌, ◌++◌, ℕ, zero, suc, ◌+◌, ◌-◌, ◌*◌, length, get_or, set, eqb, ltb}
+use Rattle.std.specs.Prelude.{Result, Ok, Err}
 use Rattle.std.proofs.lemmas.List.Edits.{sets}
 use Rattle.resolved_sort.specs.declared.Sort.{Sort}
 use Rattle.resolved_sort.specs.declared.ComplexSort.{ComplexSort}
+use Rattle.resolved_sort.specs.declared.NoContainer.{NoContainer}
 use Rattle.resolved_sort.specs.declared.Run.{Run}
 use Rattle.resolved_sort.specs.declared.ResolvedSort.{ResolvedSort}
 use Rattle.resolved_sort.specs.declared.ResolvedSort.TheVariants.{Unit, Primitive, Container, Function, Def}
@@ -142,6 +144,15 @@ kind_op ComplexSort.FSet = 8
 kind_op ComplexSort.Bag = 9
 kind_op ComplexSort.FBag = 10
 
+-- the container of a kind, where it is one's
+unfoldable pub container_of : ℕ → Result ComplexSort NoContainer
+container_of kind =
+    let none = Err (record { 0 = kind }) in
+    get_or
+    (none ∷ none ∷ none ∷ none ∷ none ∷ none
+    ∷ Ok ComplexSort.List ∷ Ok ComplexSort.Set ∷ Ok ComplexSort.FSet ∷ Ok ComplexSort.Bag ∷ Ok ComplexSort.FBag ∷ [])
+    kind none
+
 unfoldable pub part_flat : Flat → ℕ
 part_flat unit = 0
 part_flat (primitive s) = 0
@@ -163,6 +174,14 @@ put_row ws i kind part start count =
     set
     (set (set (set ws (row_words * i) kind) (row_words * i + 1) part) (row_words * i + 2) start)
     (row_words * i + 3) count
+
+-- The rows of the fixed six sorts from the words at a on, each of the kind that is its number: the first n of them.
+abbrev pub fixed_sorts : ℕ
+fixed_sorts = 6
+
+unfoldable pub fixed_rows : ℕ → ℕ → List ℕ → List ℕ
+fixed_rows a zero ws = ws
+fixed_rows a (suc n) ws = set (fixed_rows a n ws) (a + row_words * n) n
 
 -- The row r as row n, with e entries in use before it. Unused words are zero.
 unfoldable pub append_row : List ℕ → ℕ → ℕ → Row → List ℕ

@@ -4,7 +4,8 @@
 ghost use Rattle.std.specs.Prelude.{◌≡◌};
 ghost use Rattle.resolved_sort.specs.declared.Refusal.TheVariants.{SortsFull};
 ghost use Rattle.resolved_sort.specs.Checks.{code_of};
-ghost use Rattle.resolved_sort.specs.Storage.{kind_op};
+ghost use Rattle.resolved_sort.specs.Tree.{primitive};
+ghost use Rattle.resolved_sort.specs.Storage.{kind_flat, kind_op, container_of};
 
 // The number of a sort in the sort list. A type of its own, as the Rust's ResolvedSortId: sort, node, variable and
 // expression numbers do not mix.
@@ -118,6 +119,20 @@ impl Refusal {
     }
 }
 
+// A kind of rows that is no container's.
+#[derive(Clone, Copy, Debug, PartialEq, Eq)]
+pub struct NoContainer(pub u16);
+
+impl From<Sort> for u16 {
+    ghost from_gives = { λ sort kind. kind ≡ kind_flat (primitive sort) };
+
+    // The kind of a primitive sort's row, which is also the number of that sort in every list.
+    #[tactic(auto, unfolding(crate::specs::Storage::kind_flat))]
+    fn from(sort: Sort) -> Self {
+        FIRST_PRIMITIVE + (sort as u16)
+    }
+}
+
 impl From<ComplexSort> for u16 {
     ghost from_gives = { λ op kind. kind ≡ kind_op op };
 
@@ -125,6 +140,23 @@ impl From<ComplexSort> for u16 {
     #[tactic(auto, unfolding(crate::specs::Storage::kind_op))]
     fn from(op: ComplexSort) -> Self {
         FIRST_CONTAINER + (op as u16)
+    }
+}
+
+impl TryFrom<u16> for ComplexSort {
+    type Error = NoContainer;
+
+    ghost try_from_gives = { λ kind op. op ≡ container_of kind };
+
+    fn try_from(kind: u16) -> Result<Self, NoContainer> {
+        match kind {
+            6 => Ok(ComplexSort::List),
+            7 => Ok(ComplexSort::Set),
+            8 => Ok(ComplexSort::FSet),
+            9 => Ok(ComplexSort::Bag),
+            10 => Ok(ComplexSort::FBag),
+            _ => Err(NoContainer(kind)),
+        }
     }
 }
 
@@ -151,6 +183,9 @@ pub const SORT_NUMBERS: u16 = 1024;
 
 pub const MAX_ENTRIES: usize = 4096;
 
+// The fixed six sorts stand at the front of every list, each of the kind that is its number.
+pub const FIXED_SORTS: u16 = 6;
+
 pub const MAX_ARGUMENTS: u16 = 16;
 
 pub const ARGUMENT_WORDS: usize = 16;
@@ -163,8 +198,11 @@ pub const ENTRIES_AT: usize = 4096;
 
 pub const SORT_WORDS: usize = 8192;
 
-// The kinds of rows: below FIRST_CONTAINER those without a part; then containers, a function, Def and TypeVar.
+// The kinds of rows: below FIRST_CONTAINER those without a part, unit and the primitive sorts; then containers, a
+// function, Def and TypeVar.
 // kept: kinds are numbers, since the layout of the lent words is the C interface.
+pub const FIRST_PRIMITIVE: u16 = 1;
+
 pub const FIRST_CONTAINER: u16 = 6;
 
 pub const FUNCTION_KIND: u16 = 11;

@@ -192,8 +192,7 @@ pub fn try_component(t: Tries, j: u16) -> u16
     t.first + j
 }
 
-// The number sorts that a literal may have where its place is free, nearest first. Pos, Nat, Int and Real are the
-// sorts 2 to 5.
+// The number sorts that a literal may have where its place is free, nearest first.
 // The nearest is the most specific, so the first success is the best that the literal can contribute.
 pub fn lit_tries(kind: LitKind, id: InferSortId) -> Tries
     ensures { LitTries kind id result }
@@ -201,10 +200,10 @@ pub fn lit_tries(kind: LitKind, id: InferSortId) -> Tries
     match kind {
         LitKind::Positive => Tries {
             ids: [
-                InferSortId(2),
-                InferSortId(3),
-                InferSortId(4),
-                InferSortId(5),
+                Sort::Pos.into(),
+                Sort::Nat.into(),
+                Sort::Int.into(),
+                Sort::Real.into(),
             ],
             count: 4,
             other: id,
@@ -213,9 +212,9 @@ pub fn lit_tries(kind: LitKind, id: InferSortId) -> Tries
         },
         LitKind::Natural => Tries {
             ids: [
-                InferSortId(3),
-                InferSortId(4),
-                InferSortId(5),
+                Sort::Nat.into(),
+                Sort::Int.into(),
+                Sort::Real.into(),
                 InferSortId(0),
             ],
             count: 3,

@@ -20,8 +20,9 @@ ghost use Rattle.solve_checks.specs.Inner.Tests.{name_fine, source_fine, constra
 ghost use Rattle.resolved_sort.specs.Checks.{first_failing};
 
 use inference::{
-    CHOICE_WORDS, CONSTRAINT_WORDS, Constraint, ExprId, MAX_COMPONENTS, MAX_CONSTRAINTS, MAX_EXPRS,
-    MAX_OVERLOADS, MAX_SOURCES, NAME_WORDS, OVERLOAD_WORDS, SCRATCH_WORDS, TYPING_WORDS,
+    CHOICE_WORDS, CONSTRAINT_WORDS, Constraint, ExprId, LitKind, MAX_COMPONENTS, MAX_CONSTRAINTS,
+    MAX_EXPRS, MAX_OVERLOADS, MAX_SOURCES, NAME_WORDS, NameKind, OVERLOAD_WORDS, SCRATCH_WORDS,
+    TYPING_WORDS,
 };
 use node_checks::{bindings_within_lent, is_place, nodes_within_lent, test_nodes};
 use problem_words::{ConstraintKind, constraint_at};
@@ -257,15 +258,14 @@ impl Problem<'_> {
     }
 
     // Whether a name target has a known kind and, where it is an operation, a sort of the list.
-    // kept: a number, since the word may be of no kind: that is what is asked.
     #[tactic(auto, unfolding(inference::specs::SolveChecks::target_fine))]
     fn target_fine(&self, kind: u16, sort: SortId) -> bool
         ensures { result ≡ target_fine (call_for self.now) kind sort.0 }
     {
-        match kind {
-            1 | 3 => true,
-            2 => self.listed(sort),
-            _ => false,
+        match NameKind::try_from(kind) {
+            Ok(NameKind::Op) => self.listed(sort),
+            Ok(_) => true,
+            Err(_) => false,
         }
     }
 
@@ -320,7 +320,7 @@ impl Problem<'_> {
     {
         match says {
             Constraint::Sub { lhs, rhs } => self.placed(lhs) && self.placed(rhs),
-            Constraint::Lit { sort, .. } => self.placed(sort) && b <= 1,
+            Constraint::Lit { sort, .. } => self.placed(sort) && LitKind::try_from(b).is_ok(),
             Constraint::Disjunction {
                 expr,
                 sort,

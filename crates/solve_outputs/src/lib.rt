@@ -33,16 +33,16 @@ ghost use Rattle.solve_outputs.specs.Handout.{SameHandout};
 use entry_answers::pack;
 use infer_nodes::counts_of;
 use inference::{
-    CHOICE_WORDS, Constraint, ExprId, NAME_WORDS, NameTarget, OVERLOAD_WORDS, Outputs,
+    CHOICE_WORDS, Constraint, ExprId, NAME_WORDS, NameKind, NameTarget, OVERLOAD_WORDS, Outputs,
     TYPING_WORDS, Verdict,
 };
 use problem_words::{constraint_at, name_target};
-use resolved_sort::{Counts, ROW_WORDS, Refusal, Run, SortId};
+use resolved_sort::{Counts, Refusal, Run, SortId};
 use search_state::{
     BEST_CHOICES_AT, BEST_MEASURE_AT, BEST_SORTS_AT, Branch, OVERLOADS_AT, Search, Sizes,
 };
 use solve_checks::{Given, Problem, components, disjunction_count};
-use sort_interner::give_back;
+use sort_interner::{clear_past, give_back};
 use unification::{Full, Lengths, NODE_ENTRIES_AT};
 use words::{BIT_8, BIT_24, BIT_40, BIT_52, clear, copy, put, word};
 
@@ -64,13 +64,17 @@ pub struct BaseNames<'a> {
 }
 
 // Zero past the nodes and argument entries that the call began with, and these as they are.
+#[tactic(auto, unfolding(inference::specs::SolveEntry::nodes_given_back))]
 fn clear_nodes(nodes: &mut [u16], node_count: u16, entry_count: u16)
     requires { (node_count ≤ max_nodes) × (entry_count ≤ max_node_entries) × (full_nodes ≤ length nodes.old) }
     ensures { nodes.new ≡ nodes_given_back node_count entry_count nodes.old }
 {
-    clear(nodes, ROW_WORDS * (node_count as usize), NODE_ENTRIES_AT);
-    let end = nodes.len();
-    clear(nodes, NODE_ENTRIES_AT + (entry_count as usize), end);
+    clear_past(
+        nodes,
+        node_count as usize,
+        NODE_ENTRIES_AT,
+        entry_count as usize,
+    );
 }
 
 // The measure handed out.
@@ -129,14 +133,13 @@ fn write_choices(choices: &mut [u16], search: &Search<'_>)
 }
 
 // The kind and the sort of a name, as they are handed out. Only an operation has a sort.
-// kept: two words, since what is handed out is the C interface.
 fn name_words(name: NameTarget) -> (u16, u16)
     ensures { result ≡ (name_kind (some name), name_sort (some name)) }
 {
     match name {
-        NameTarget::Variable => (1, 0),
-        NameTarget::Op(sort) => (2, sort.0),
-        NameTarget::Builtin => (3, 0),
+        NameTarget::Variable => (NameKind::Variable as u16, 0),
+        NameTarget::Op(sort) => (NameKind::Op as u16, sort.0),
+        NameTarget::Builtin => (NameKind::Builtin as u16, 0),
     }
 }
 

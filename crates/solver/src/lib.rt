@@ -25,7 +25,7 @@ ghost use Rattle.solver.specs.Inner.Asked.{TriesFine, OverloadsFine, exprs_of_co
 
 use inference::{Constraint, ExprId, LitKind};
 use problem_words::{constraint_at, overload_place, source_at};
-use resolved_sort::{ComplexSort, Run, SortId};
+use resolved_sort::{ComplexSort, Run, Sort, SortId};
 use search_join::agreed;
 use search_leaf::{dominated, leaf};
 use search_state::{Branch, LitAt, Next, Pairs, Search, Step, Tries};
@@ -38,22 +38,21 @@ use unification::{Full, InferSortId};
 // What a comprehension may be: the sort of its body, and the container that it makes.
 #[derive(Clone, Copy)]
 struct Reading {
-    body: InferSortId,
+    body: Sort,
     op: ComplexSort,
 }
 
-// Bool and Set, Nat and Bag, Pos and Bag: these are the sorts 1, 3 and 2.
 const READINGS: [Reading; 3] = [
     Reading {
-        body: InferSortId(1),
+        body: Sort::Bool,
         op: ComplexSort::Set,
     },
     Reading {
-        body: InferSortId(3),
+        body: Sort::Nat,
         op: ComplexSort::Bag,
     },
     Reading {
-        body: InferSortId(2),
+        body: Sort::Pos,
         op: ComplexSort::Bag,
     },
 ];
@@ -136,7 +135,7 @@ fn solve_join(
     let Some(lub) = agreed(search, at, sources)? else {
         return solve_join_seq(search, at, target, start, end, then);
     };
-    let pair = Pairs::One(target, InferSortId(lub.0));
+    let pair = Pairs::One(target, lub.into());
     if attempt(search, at, pair, Step::Written(count), Next::Solve(then))? {
         return Ok(true);
     }
@@ -229,7 +228,7 @@ fn solve_comprehension(
     let mut found = false;
     for reading in READINGS {
         let container = intern_container(search, reading.op, element)?;
-        let pairs = Pairs::Two(body, reading.body, node, InferSortId(container.0));
+        let pairs = Pairs::Two(body, reading.body.into(), node, container.into());
         found |= attempt(search, at, pairs, Step::Nothing, next)?;
     }
     Ok(found)

@@ -28,7 +28,8 @@ use Rattle.resolved_sort.proofs.Distance.{distance_stops_once}
 use Rattle.entry_answers.specs.Packing.{FitFields, AnswerWithin}
 use Rattle.entry_answers.proofs.Packing.{Fit, answers_told}
 use Rattle.entry_answers.proofs.SortsLeft.{counts_within}
-use Rattle.sort_entries.specs.Codes.{order_code, order_values, distance_values, yes_values, bound_values}
+use Rattle.entry_answers.specs.Packing.{yes_values}
+use Rattle.sort_entries.specs.Codes.{order_code, order_values, distance_values, bound_values}
 use Rattle.sort_entries.specs.Codes.{ComparedWithin, StepsWithin, MeasuredWithin, MaterializedWithin, BoundedWithin}
 use Rattle.sort_entries.specs.Packed.{compared_widths, measured_widths, materialized_widths, bounded_widths}
 use Rattle.sort_entries.specs.Packed.{pack_compared, pack_measured, pack_materialized, pack_bounded, packed_sorts, pack_sorts_left}

@@ -1,6 +1,6 @@
 -- The values of each answer of the sorts' entries, beside document 01's number.
-use Rattle.std.specs.Prelude.{◌≡◌, ◌⊎◌, true, false, List, [], ◌∷◌, ℕ, ◌<◌, ◌≤◌, Bool, Option, Some, None, Result}
-use Rattle.entry_answers.specs.Packing.{CodeAndValues, coded_answer, AnswerWithin}
+use Rattle.std.specs.Prelude.{◌≡◌, ◌⊎◌, List, [], ◌∷◌, ℕ, ◌<◌, ◌≤◌, Bool, Option, Some, None, Result}
+use Rattle.entry_answers.specs.Packing.{CodeAndValues, coded_answer, yes_values, AnswerWithin}
 use Rattle.resolved_sort.specs.declared.Counts.{Counts}
 use Rattle.std.specs.declared.cmp.Ordering.{Ordering}
 use Rattle.std.specs.declared.cmp.Ordering.TheVariants.{Less, Equal, Greater}
@@ -29,11 +29,6 @@ order_values o = order_code o ∷ []
 abbrev pub distance_values : Option Steps → List ℕ
 distance_values (Some d) = 1 ∷ d.head ∷ d.interior ∷ []
 distance_values None = 0 ∷ []
-
--- 1 for yes
-abbrev pub yes_values : Bool → List ℕ
-yes_values true = 1 ∷ []
-yes_values false = 0 ∷ []
 
 -- 1 where there is a sort, its number, and the sorts and entries after the call
 abbrev pub bound_values : Option SortId × Counts → List ℕ

@@ -9,7 +9,7 @@ ghost use Rattle.sort_entries.specs.Inner.Kept.{pair_tested, kept_or_given_back}
 ghost use Rattle.sort_entries.specs.Packed.{pack_compared, pack_measured, pack_materialized, pack_bounded};
 ghost use Rattle.sort_entries.specs.Packed.{packed_sorts, pack_sorts_left};
 
-use entry_answers::pack;
+use entry_answers::{pack, pack_yes};
 use resolved_sort::{Counts, NoRoom, Refusal, SORT_WORDS, SortId, Steps};
 use sort_checks::test_sorts;
 use sort_interner::{SortInterner, Sorts};
@@ -189,13 +189,6 @@ fn pack_distance(steps: Option<Steps>) -> u64
             + (interior as u64) * BIT_24,
         None => 0,
     }
-}
-
-#[tactic(auto, unfolding(entry_answers::specs::Packing::packed, entry_answers::specs::Packing::in_fields))]
-fn pack_yes(yes: bool) -> u64
-    ensures { result ≡ pack_materialized (Ok yes) }
-{
-    (yes as u64) * BIT_8
 }
 
 #[tactic(auto, unfolding(entry_answers::specs::Packing::packed, entry_answers::specs::Packing::in_fields))]

@@ -1,13 +1,14 @@
 -- A run of stores, one turn after another. Assumes nothing.
-use mathlib.Core.Path.{◌≡◌, sym, ap, ◌∙◌}
+use mathlib.Core.Path.{◌≡◌, refl, sym, ap, ◌∙◌}
 use mathlib.Core.List.{List}
-use Prim.Native.Nat.{ℕ, suc, ◌+◌, ◌<◌, ◌≤◌}
+use Prim.Native.Nat.{ℕ, zero, suc, ◌+◌, ◌*◌, ◌<◌, ◌≤◌}
 use native.Mathlib.Omega.{arith}
 use native.Mathlib.Nat.{add-zero}
 use native.Mathlib.Numerals.{add-one}
-use lib.ListN.{length, get_or, drop, set, drop_of_length-le}
+use lib.ListN.{length, get_or, drop, set, length-set, drop_of_length-le}
 use lib.Seq.{sets, drop-cons}
 use Rattle.resolved_sort.specs.declared.SortId.{SortId}
+use Rattle.resolved_sort.specs.Storage.{row_words, fixed_rows}
 use Rattle.resolved_sort.specs.Inner.Storage.{sort_numbers}
 use Rattle.resolved_sort.proofs.SortNumbers.{length_sort_numbers, get_d_sort_numbers}
 
@@ -43,3 +44,19 @@ module _ (ws xs : List ℕ) (p i : ℕ) (whole : List ℕ) (inv : whole ≡ sets
   numbers_from_next ids q h vs e =
       given_from_next (omega (arith, ap length q, length_sort_numbers ids)) vs
       (e ∙ ap (set ws (p + i)) (get_d_sort_numbers ids i ∙ ap (λ ys. get_or ys i 0) (sym q)))
+
+-- the first of the fixed sorts stand there
+pub none_fixed : (a : ℕ) (start : List ℕ) → start ≡ fixed_rows a 0 start
+unfolding fixed_rows
+none_fixed a start = refl
+
+pub next_fixed :
+    (a : ℕ) (start ws : List ℕ) (i : ℕ) → ws ≡ fixed_rows a i start → (us : List ℕ) → us ≡ set ws (a + row_words * i) i
+    → us ≡ fixed_rows a (i + 1) start
+unfolding fixed_rows
+next_fixed a start ws i g us e = e ∙ ap (λ (l : List ℕ). set l (a + row_words * i) i) g ∙ rw (add-one) refl
+
+pub fixed_long : (a n : ℕ) (ws : List ℕ) → length (fixed_rows a n ws) ≡ length ws
+unfolding fixed_rows
+fixed_long a zero ws = refl
+fixed_long a (suc n) ws = length-set (fixed_rows a n ws) (a + row_words * n) n ∙ fixed_long a n ws

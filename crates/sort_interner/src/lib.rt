@@ -2,9 +2,11 @@
 // behind them. A row is read, found or appended, and sorts made are given back. Interning stands here alone.
 #![tactic(auto)]
 
-ghost use Rattle.std.specs.Prelude.{◌≡◌, cond, ◌+◌, ◌≤◌, ◌<◌, List, ℕ, length, take, eqb};
+ghost use Rattle.std.specs.Prelude.{◌≡◌, cond, ◌+◌, ◌*◌, ◌≤◌, ◌<◌, List, ℕ, length, take, eqb};
 ghost use Rattle.std.proofs.lemmas.List.Edits.{sets};
 ghost use Rattle.resolved_sort.specs.Storage.{max_sorts, max_entries, max_arguments, entries_at, full_length};
+ghost use Rattle.resolved_sort.specs.Storage.{row_words, fixed_sorts, fixed_rows};
+ghost use Rattle.words.specs.Words.{zeros};
 ghost use Rattle.resolved_sort.specs.Storage.{function_kind, resolved, row_at, entry_at, entries_of, words_at, kind_op, put_row};
 ghost use Rattle.resolved_sort.specs.Storage.{append_row, given_back, trees, look_all};
 ghost use Rattle.resolved_sort.specs.Rows.{same_words, same_row, stored_at, interned_at, intern_row, Checked};
@@ -16,8 +18,8 @@ ghost use Rattle.resolved_sort.specs.Interning.{look};
 ghost use Rattle.resolved_sort.specs.Bounds.{intern_at};
 
 use resolved_sort::{
-    ARGUMENT_WORDS, ComplexSort, Counts, ENTRIES_AT, FIRST_CONTAINER, FUNCTION_KIND, MAX_ENTRIES,
-    NoRoom, ROW_WORDS, ResolvedSort, Run, SORT_NUMBERS, Sort, SortId,
+    ARGUMENT_WORDS, ComplexSort, Counts, DEF_KIND, ENTRIES_AT, FIRST_CONTAINER, FIXED_SORTS,
+    FUNCTION_KIND, MAX_ENTRIES, NoRoom, ROW_WORDS, ResolvedSort, Run, SORT_NUMBERS, Sort, SortId,
 };
 use words::{clear, put, word};
 
@@ -52,6 +54,12 @@ struct Row<'a> {
 fn row_of(kind: u16, part: u16, run: Run) -> ResolvedSort
     ensures { result ≡ resolved kind part run }
 {
+    if let Ok(op) = ComplexSort::try_from(kind) {
+        return ResolvedSort::Container {
+            op,
+            subsort: SortId(part),
+        };
+    }
     match kind {
         0 => ResolvedSort::Unit,
         1 => ResolvedSort::Primitive(Sort::Bool),
@@ -59,31 +67,11 @@ fn row_of(kind: u16, part: u16, run: Run) -> ResolvedSort
         3 => ResolvedSort::Primitive(Sort::Nat),
         4 => ResolvedSort::Primitive(Sort::Int),
         5 => ResolvedSort::Primitive(Sort::Real),
-        6 => ResolvedSort::Container {
-            op: ComplexSort::List,
-            subsort: SortId(part),
-        },
-        7 => ResolvedSort::Container {
-            op: ComplexSort::Set,
-            subsort: SortId(part),
-        },
-        8 => ResolvedSort::Container {
-            op: ComplexSort::FSet,
-            subsort: SortId(part),
-        },
-        9 => ResolvedSort::Container {
-            op: ComplexSort::Bag,
-            subsort: SortId(part),
-        },
-        10 => ResolvedSort::Container {
-            op: ComplexSort::FBag,
-            subsort: SortId(part),
-        },
-        11 => ResolvedSort::Function {
+        FUNCTION_KIND => ResolvedSort::Function {
             domain: run,
             range: SortId(part),
         },
-        12 => ResolvedSort::Def(part),
+        DEF_KIND => ResolvedSort::Def(part),
         _ => ResolvedSort::TypeVar(part),
     }
 }
@@ -101,14 +89,23 @@ pub fn get(sorts: &[u16], id: SortId) -> ResolvedSort
     row_of(kind, part, Run { start, count })
 }
 
+// Zero past n rows and, from the place where these begin, e entries; and these as they are.
+pub fn clear_past(words: &mut [u16], n: usize, entries_at: usize, e: usize)
+    requires { (row_words * n ≤ entries_at) × (entries_at + e ≤ length words.old) }
+    ensures { words.new
+        ≡ zeros (entries_at + e) (length words.old) (zeros (row_words * n) entries_at words.old) }
+{
+    clear(words, ROW_WORDS * n, entries_at);
+    let end = words.len();
+    clear(words, entries_at + e, end);
+}
+
 // What 15 leaves: zero past the n rows and e entries that the call began with, and these as they are.
 pub fn give_back(sorts: &mut [u16], n: usize, e: usize)
     requires { (n ≤ max_sorts) × (e ≤ max_entries) × (full_length ≤ length sorts.old) }
     ensures { sorts.new ≡ given_back n e sorts.old }
 {
-    clear(sorts, ROW_WORDS * n, ENTRIES_AT);
-    let end = sorts.len();
-    clear(sorts, ENTRIES_AT + e, end);
+    clear_past(sorts, n, ENTRIES_AT, e);
 }
 
 // The kind of a sort's row, known or not.
@@ -212,6 +209,17 @@ pub fn put_row(sorts: &mut [u16], i: u16, kind: u16, part: u16, start: u16, coun
     put(sorts, at + 1, part);
     put(sorts, at + 2, start);
     put(sorts, at + 3, count);
+}
+
+// The rows of the fixed six sorts put, each of the kind that is its number, from the words at a place on. Their other
+// words stay.
+pub fn put_fixed_six(words: &mut [u16], at: usize)
+    requires { at + row_words * fixed_sorts ≤ length words.old }
+    ensures { words.new ≡ fixed_rows at fixed_sorts words.old }
+{
+    for kind in 0..FIXED_SORTS {
+        words[at + ROW_WORDS * (kind as usize)] = kind;
+    }
 }
 
 // These sorts stored as the entries from e on.

@@ -11,6 +11,7 @@ ghost use Rattle.sort_lexer.specs.Inner.Meant.{meant, text_of};
 
 use resolved_sort::{ComplexSort, Sort};
 use sort_text::{op_word, sort_word};
+use words::rest;
 
 // A token of a line: a longest run of letters, `(`, `)`, `#`, `->`. The end of the line counts as a token; a byte that
 // starts none of these is one that cannot follow.
@@ -41,20 +42,12 @@ pub enum Word {
     Container(ComplexSort),
 }
 
-// The end of the caller's own line that starts at `at`; past the end it is empty.
-// Ruled out: an end that starts one byte late; the whole line for a position past its end.
-pub fn unread(line: &[u8], at: usize) -> &[u8]
-    ensures { result.now ≡ drop at line.now }
-{
-    line.get(at..).unwrap_or(&[])
-}
-
 // The bytes of the line from `from` to `to`, as far as it has them.
 pub fn between(line: &[u8], from: usize, to: usize) -> &[u8]
     ensures { result.now ≡ take (to - from) (drop from line.now) }
 {
-    let rest = unread(line, from);
-    &rest[..rest.len().min(to.saturating_sub(from))]
+    let end = rest(line, from);
+    &end[..end.len().min(to.saturating_sub(from))]
 }
 
 // The first position from `at` on whose byte does not pass, or the end of the line.
@@ -62,7 +55,7 @@ pub fn run_end<P: Fn(u8) -> bool>(line: &[u8], at: usize, passes: P) -> usize
     requires { P.IsAlwaysCallable passes }
     ensures { (p : ℕ → Bool) → Tests (P.post passes) p → result ≡ offset line.now (past p (drop at line.now)) }
 {
-    for (i, byte) in unread(line, at).iter().enumerate() {
+    for (i, byte) in rest(line, at).iter().enumerate() {
         if !passes(*byte) {
             return at + i;
         }
@@ -101,7 +94,7 @@ pub fn token_from(line: &[u8], at: usize) -> Lexeme
         b'(' => (Token::Open, from + 1),
         b')' => (Token::Close, from + 1),
         b'#' => (Token::Hash, from + 1),
-        b'-' if unread(line, from).starts_with(b"->") => (Token::Arrow, from + 2),
+        b'-' if rest(line, from).starts_with(b"->") => (Token::Arrow, from + 2),
         _ => (Token::Bad, from),
     };
     Lexeme {

@@ -101,11 +101,8 @@ pub fn number_generality(sort: Sort) -> Option<u8>
     ensures { result ≡ generality sort }
 {
     match sort {
-        Sort::Pos => Some(0),
-        Sort::Nat => Some(1),
-        Sort::Int => Some(2),
-        Sort::Real => Some(3),
         Sort::Bool => None,
+        number => Some(number.level()),
     }
 }
 

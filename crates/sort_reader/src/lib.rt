@@ -31,12 +31,10 @@ impl From<u8> for Step {
     fn from(byte: u8) -> Self {
         match byte {
             0..=5 => Step::Fixed(SortId(u16::from(byte))),
-            6 => Step::Container(ComplexSort::List),
-            7 => Step::Container(ComplexSort::Set),
-            8 => Step::Container(ComplexSort::FSet),
-            9 => Step::Container(ComplexSort::Bag),
-            10 => Step::Container(ComplexSort::FBag),
-            _ => Step::Function(usize::from(byte.saturating_sub(FUNCTION_STEP))),
+            _ => match ComplexSort::try_from(u16::from(byte)) {
+                Ok(op) => Step::Container(op),
+                Err(_) => Step::Function(usize::from(byte.saturating_sub(FUNCTION_STEP))),
+            },
         }
     }
 }

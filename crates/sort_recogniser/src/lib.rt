@@ -12,7 +12,7 @@ ghost use Rattle.sort_recogniser.specs.Inner.Says.{Met, HasRoom, Read, ReadRest,
 ghost use Rattle.sort_recogniser.specs.Inner.Cleared.{RecognisedAs, LineRecognised};
 ghost use Rattle.sort_text.specs.Parse as Parse;
 
-use resolved_sort::{ComplexSort, Sort};
+use resolved_sort::{ComplexSort, FIRST_CONTAINER, FIRST_PRIMITIVE, Sort};
 use sort_lexer::{Lexeme, Reader, Token, Word};
 use sort_text::{FUNCTION_STEP, MOST_ARGUMENTS, Unread};
 
@@ -34,13 +34,7 @@ impl From<Stuck> for Unread {
 fn step_of_sort(sort: Sort) -> u8
     ensures { result ≡ kind_flat (primitive sort) }
 {
-    match sort {
-        Sort::Bool => 1,
-        Sort::Pos => 2,
-        Sort::Nat => 3,
-        Sort::Int => 4,
-        Sort::Real => 5,
-    }
+    FIRST_SORT_STEP + (sort as u8)
 }
 
 // The step of a container.
@@ -48,13 +42,7 @@ fn step_of_sort(sort: Sort) -> u8
 fn step_of_op(op: ComplexSort) -> u8
     ensures { result ≡ kind_op op }
 {
-    match op {
-        ComplexSort::List => 6,
-        ComplexSort::Set => 7,
-        ComplexSort::FSet => 8,
-        ComplexSort::Bag => 9,
-        ComplexSort::FBag => 10,
-    }
+    FIRST_CONTAINER_STEP + (op as u8)
 }
 
 // How far a line is recognised, and the steps of what it said so far.
@@ -227,3 +215,8 @@ pub fn recognise(line: &[u8], steps: &mut [u8]) -> Result<usize, Stuck>
     steps[found.unwrap_or(0)..].fill(0);
     found
 }
+
+// Steps of sorts are the kinds of their rows.
+const FIRST_SORT_STEP: u8 = FIRST_PRIMITIVE as u8;
+
+const FIRST_CONTAINER_STEP: u8 = FIRST_CONTAINER as u8;

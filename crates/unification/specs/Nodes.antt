@@ -1,6 +1,7 @@
 -- The lent node storage, as that of sorts: rows of four words, kind, part, start and count, then the argument entries
 -- at a fixed place. Parts are places: a sort below 1,024, else a node. Words past the counts are not looked at.
 use Rattle.std.specs.Prelude.{Bool, cond, List, [], ◌∷◌, ◌++◌, ℕ, zero, suc, ◌+◌, ◌-◌, ◌*◌, get_or, eqb, ltb}
+use Rattle.std.specs.Prelude.{Option as Found, Some, None}
 use Rattle.std.proofs.Math.Option.{Option, none, some}
 use Rattle.resolved_sort.specs.declared.ComplexSort.{ComplexSort}
 use Rattle.resolved_sort.specs.declared.Run.{Run}
@@ -9,6 +10,7 @@ use Rattle.resolved_sort.specs.declared.ResolvedSort.TheVariants.{Unit, Primitiv
 use Rattle.resolved_sort.specs.declared.ResolvedSort.TheVariants.{Function as SortFunction, Def, TypeVar}
 use Rattle.resolved_sort.specs.Tree.{unit, primitive, def, typevar}
 use Rattle.resolved_sort.specs.Storage.{max_sorts, row_words, first_container, function_kind, entries_of, row_at}
+use Rattle.unification.specs.declared.InferSortId.{InferSortId}
 use Rattle.unification.specs.declared.InferSort.{InferSort}
 use Rattle.unification.specs.declared.InferSort.TheVariants.{Generic, Function, Var}
 use Rattle.unification.specs.Term.{flat_head, container_head, function_head, stray_head, Shape, variable, over}
@@ -123,6 +125,11 @@ free_word = 65535
 
 abbrev pub binding_of : ℕ → Option ℕ
 binding_of w = cond (eqb w free_word) none (some w)
+
+-- the same of what the code found
+abbrev pub bound_of : Found InferSortId → Option ℕ
+bound_of (Some p) = some p.0
+bound_of None = none
 
 -- the bindings of the first n variables
 unfoldable pub binds_of : List ℕ → ℕ → Binds

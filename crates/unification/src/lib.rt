@@ -3,10 +3,13 @@
 
 ghost use Rattle.std.specs.Prelude.{◌≡◌};
 ghost use Rattle.unification.specs.declared.Full.TheVariants.{Sorts, Nodes};
+ghost use Rattle.resolved_sort.specs.Tree.{primitive};
+ghost use Rattle.resolved_sort.specs.Storage.{kind_flat};
 ghost use Rattle.unification.specs.Full.{refusal_of};
+ghost use Rattle.unification.specs.Nodes.{binding_of, bound_of};
 ghost use Rattle.unification.specs.Inner.Apart.{TakenApart};
 
-use resolved_sort::{ComplexSort, NoRoom, Refusal, Run, SortId};
+use resolved_sort::{ComplexSort, NoRoom, Refusal, Run, Sort, SortId};
 
 // A place, the Rust's InferSortId: an interned sort (below 1,024) or a node. The port has no Resolved node.
 // Nodes, unlike sorts, are not interned: two may denote the same sort, and whether they do is for unify to decide.
@@ -40,6 +43,34 @@ impl From<InferSortId> for Place {
         }
         Place::Node(NodeId(id.0 - FIRST_NODE))
     }
+}
+
+impl From<SortId> for InferSortId {
+    ghost from_gives = { λ sort id. id.0 ≡ sort.0 };
+
+    // A sort's place.
+    fn from(sort: SortId) -> Self {
+        InferSortId(sort.0)
+    }
+}
+
+impl From<Sort> for InferSortId {
+    ghost from_gives = { λ sort id. id.0 ≡ kind_flat (primitive sort) };
+
+    // The place of a primitive sort, which is a sort of every list: Bool, Pos, Nat, Int and Real are the sorts 1 to 5.
+    fn from(sort: Sort) -> Self {
+        InferSortId(u16::from(sort))
+    }
+}
+
+// What a variable is bound to, by the word of its binding, unless it is free.
+pub fn binding_of(word: u16) -> Option<InferSortId>
+    ensures { bound_of result ≡ binding_of word }
+{
+    if word == FREE_WORD {
+        return None;
+    }
+    Some(InferSortId(word))
 }
 
 // What a node says. Its parts are places, and the domain of a function is a run of places where the Rust has a Vec.

@@ -16,9 +16,9 @@ use Rattle.unification.specs.NodeChecks.{node_checks, place_checks, unify_checks
 use Rattle.unification.specs.Checked.{lists_of}
 use Rattle.unification.specs.UnifyEntry.{BindsLeft, binds_left, binds_left_by, unify_entry}
 use Rattle.resolved_sort.proofs.FailingNumber.{failing_number}
-use Rattle.entry_answers.specs.Packing.{FitFields}
+use Rattle.entry_answers.specs.Packing.{yes_values, FitFields}
 use Rattle.entry_answers.proofs.Packing.{Fit, answers_told}
-use Rattle.unify_entries.specs.Codes.{unified_values, UnifiedWithin}
+use Rattle.unify_entries.specs.Codes.{UnifiedWithin}
 use Rattle.unify_entries.specs.Packed.{unified_widths, pack_unified}
 
 left_told : (bs : List ℕ) (v : ℕ) (a : Unifies) → (code_answered (binds_left_by bs v a).answer ≡ 0) × UnifiedWithin (binds_left_by bs v a).answer
@@ -74,13 +74,13 @@ module _ (ws : List ℕ) (n e : ℕ) (ns : List ℕ) (m d : ℕ) (bs : List ℕ)
       go (Err c) x = refused_by_number c x
 
 -- numbers within their bounds fit their fields
-unified_fits : (r : Result Bool Refusal) → Fit unified_widths unified_values r
+unified_fits : (r : Result Bool Refusal) → Fit unified_widths yes_values r
 unfolding FitFields
 unified_fits (Err c) = tt
 unified_fits (Ok true) = (omega arith, tt)
 unified_fits (Ok false) = (omega arith, tt)
 
-yes_told : (x y : Bool) → ((i : ℕ) → get_or (unified_values x) i 0 ≡ get_or (unified_values y) i 0) → x ≡ y
+yes_told : (x y : Bool) → ((i : ℕ) → get_or (yes_values x) i 0 ≡ get_or (yes_values y) i 0) → x ≡ y
 yes_told true true v = refl
 yes_told true false v = absurd (omega (arith, v 0))
 yes_told false true v = absurd (omega (arith, v 0))
@@ -88,4 +88,4 @@ yes_told false false v = refl
 
 -- the packed answer tells the answers apart
 pub packed_tells : (u w : Result Bool Refusal) → UnifiedWithin u → UnifiedWithin w → pack_unified u ≡ pack_unified w → u ≡ w
-packed_tells u w x y p = answers_told unified_widths unified_values yes_told u w (unified_fits u) (unified_fits w) p
+packed_tells u w x y p = answers_told unified_widths yes_values yes_told u w (unified_fits u) (unified_fits w) p

@@ -11,14 +11,13 @@ ghost use Rattle.unification.specs.Checked.{graph_of, Ready, Placed};
 ghost use Rattle.unification.specs.UnifyEntry.{binds_left, binds_left_by, unify_entry};
 ghost use Rattle.unify_entries.specs.Packed.{pack_unified, packed_binds, pack_binds_left};
 
-use entry_answers::pack;
+use entry_answers::{pack, pack_yes};
 use infer_nodes::Places;
 use node_checks::{bindings_within_lent, is_place, nodes_within_lent, test_nodes};
 use resolved_sort::{Refusal, SORT_WORDS};
 use sort_checks::{test_sorts, within_lent};
 use unification::{InferSortId, Lengths, MAX_VARS, NODE_WORDS};
 use unifier::Unifier;
-use words::BIT_8;
 
 // What a caller lends, with its counts.
 #[derive(Clone, Copy)]
@@ -168,14 +167,6 @@ pub fn unify(
         lengths,
     };
     Ok(unify_alone(places, binds, lhs, rhs))
-}
-
-// The values of an answer in their fields, above a code of 0.
-#[tactic(auto, unfolding(entry_answers::specs::Packing::packed, entry_answers::specs::Packing::in_fields))]
-fn pack_yes(yes: bool) -> u64
-    ensures { result ≡ pack_unified (Ok yes) }
-{
-    (yes as u64) * BIT_8
 }
 
 // The entry for callers in other languages: a slice is a pointer and a length, places are numbers,

@@ -1,8 +1,8 @@
 // Lent lists of 16-bit words: a word read, put, cleared, copied. A word past the end counts as 0,
-// so no read needs a check before it.
+// so no read needs a check before it. And the rest of any list.
 #![tactic(auto)]
 
-ghost use Rattle.std.specs.Prelude.{◌≡◌, ◌+◌, ◌≤◌, length, get_or, set};
+ghost use Rattle.std.specs.Prelude.{◌≡◌, ◌+◌, ◌≤◌, length, get_or, set, drop};
 ghost use Rattle.std.proofs.lemmas.List.Edits.{sets};
 ghost use Rattle.words.specs.Words.{part, zeros};
 
@@ -38,6 +38,24 @@ pub fn copy(to: &mut [u16], at: usize, words: &[u16], from: usize, n: usize)
     ensures { to.new ≡ sets to.old at (part from n words.now) }
 {
     to[at..at + n].copy_from_slice(&words[from..from + n]);
+}
+
+// So many words of a slice, from a place on.
+pub fn copied<const N: usize>(words: &[u16], at: usize) -> [u16; N]
+    requires { at + N ≤ length words.now }
+    ensures { result ≡ part at N words.now }
+{
+    let mut copied = [0; N];
+    copied.copy_from_slice(&words[at..at + N]);
+    copied
+}
+
+// What a list has from a place on; past its end it is empty.
+// Ruled out: an end that starts one later; the whole list for a place past its end.
+pub fn rest<T>(list: &[T], at: usize) -> &[T]
+    ensures { result.now ≡ drop at list.now }
+{
+    list.get(at..).unwrap_or(&[])
 }
 
 // The largest word.

@@ -1,8 +1,7 @@
 -- What the variable at a place is bound to, and runs of arguments that are places.
-use Rattle.std.specs.Prelude.{◌≡◌, true, List, ℕ, ◌+◌, ◌<◌, ◌≤◌, length, Option as Found, Some, None}
+use Rattle.std.specs.Prelude.{◌≡◌, true, List, ℕ, ◌+◌, ◌<◌, ◌≤◌, length}
 use Rattle.std.proofs.Math.Option.{Option, none, some}
 use Rattle.resolved_sort.specs.Storage.{max_arguments}
-use Rattle.unification.specs.declared.InferSortId.{InferSortId}
 use Rattle.unification.specs.declared.Lengths.{Lengths}
 use Rattle.unification.specs.Term.{Shape, variable, over}
 use Rattle.unification.specs.Nodes.{node_entry_at, Binds, binding, binds_of}
@@ -10,11 +9,7 @@ use Rattle.unification.specs.Acyclic.{acyclic}
 use Rattle.unification.specs.NodeChecks.{bindings_fine}
 use Rattle.unification.specs.Checked.{NodesChecked, Placed}
 
--- what a variable is bound to, by what the code found, and by the shape at a place
-abbrev pub bound_of : Found InferSortId → Option ℕ
-bound_of (Some p) = some p.0
-bound_of None = none
-
+-- what a variable is bound to, by the shape at a place
 abbrev pub bound_to : Shape → Binds → Option ℕ
 bound_to (variable v) B = binding B v
 bound_to (over h ps) B = none

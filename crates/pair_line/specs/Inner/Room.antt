@@ -1,5 +1,5 @@
 -- What only contracts of inner functions cite, beside `specs/Room.antt`.
-use Rattle.std.specs.Prelude.{◌≡◌, true, List, ℕ, ◌+◌, ◌*◌, ◌<◌, ◌≤◌, set, Option, Some, None, Result, Ok, Err}
+use Rattle.std.specs.Prelude.{◌≡◌, true, List, ℕ, ◌+◌, ◌*◌, ◌<◌, ◌≤◌, Option, Some, None, Result, Ok, Err}
 use Rattle.resolved_sort.specs.declared.SortId.{SortId}
 use Rattle.resolved_sort.specs.Checks.{fixed_six}
 use Rattle.resolved_sort.specs.Entries.{tree_at}
@@ -12,10 +12,6 @@ use Rattle.text_out.specs.Outs.{then_put}
 use Rattle.pair_line.specs.PairProgram.{good, wrong, line_of}
 use Rattle.pair_line.specs.Room.{OfLine}
 use Rattle.pair_line.specs.Inner.Answers.{wrong_text}
-
--- The fixed six sorts in a storage: their kinds are their numbers.
-unfoldable pub put_six : List ℕ → List ℕ
-put_six ws = set (set (set (set (set (set ws 0 0) 4 1) 8 2) 12 3) 16 4) 20 5
 
 -- The second storage has the sorts of the first under their numbers, and at most max_line more sorts and entries.
 pub record RoomGrows (ws : List ℕ) (n e : ℕ) (vs : List ℕ) (m d : ℕ) : Type 0 where

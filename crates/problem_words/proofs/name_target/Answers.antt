@@ -1,18 +1,12 @@
 -- By the kind. Assumes nothing.
-use Rattle.inference.specs.Constraints.{target}
-use Rattle.std.proofs.Common.{arith, sym}
-use Rattle.std.proofs.lemmas.Bool.{ne_eqb}
+use Rattle.problem_words.proofs.Said.{name_said}
 use Rattle.problem_words.proofs.name_target.Goals as goal
 
-pub returns-in-1 : goal.returns-in-1
-unfolding target
-returns-in-1 c = sym (rw c.in-1.is)
+pub returns-in-Variable : goal.returns-in-Variable
+returns-in-Variable c = name_said c.args.kind c.args.sort _ c.try_from.ensures _ c.unwrap_or.ensures _ c.in-Variable.is
 
-pub returns-in-2 : goal.returns-in-2
-unfolding target
-returns-in-2 c = sym (rw c.in-2.is)
+pub returns-in-Op : goal.returns-in-Op
+returns-in-Op c = name_said c.args.kind c.args.sort _ c.try_from.ensures _ c.unwrap_or.ensures _ c.in-Op.is
 
-pub returns-in_default : goal.returns-in_default
-unfolding target
-returns-in_default c =
-    sym (rw (ne_eqb c.args.kind 1 (λ e. omega (arith, e)), ne_eqb c.args.kind 2 (λ e. omega (arith, e))))
+pub returns-in-Builtin : goal.returns-in-Builtin
+returns-in-Builtin c = name_said c.args.kind c.args.sort _ c.try_from.ensures _ c.unwrap_or.ensures _ c.in-Builtin.is

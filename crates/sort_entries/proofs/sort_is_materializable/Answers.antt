@@ -1,7 +1,7 @@
 -- What is packed of an answer. Assumes nothing.
 use Rattle.std.proofs.Common.{◌∙◌, ap, rules}
 use Rattle.entry_answers.proofs.Packing.{packed_by}
-use Rattle.sort_entries.specs.Codes.{yes_values}
+use Rattle.entry_answers.specs.Packing.{yes_values}
 use Rattle.sort_entries.specs.Packed.{pack_materialized, materialized_widths}
 use Rattle.sort_entries.proofs.sort_is_materializable.Goals as goal
 

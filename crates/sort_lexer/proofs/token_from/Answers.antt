@@ -24,7 +24,7 @@ returns-in-35 c =
 pub returns-in-45 : goal.returns-in-45
 returns-in-45 c =
     let f = c.in-Some.ensures.lookup in
-    law.says_arrow _ _ _ c.skip_spaces-from.ensures _ f.0 f.1 c.in-45.is _ c.unread.ensures _ c.starts_with.ensures.value c.if-starts_with.true
+    law.says_arrow _ _ _ c.skip_spaces-from.ensures _ f.0 f.1 c.in-45.is _ c.rest.ensures _ c.starts_with.ensures.value c.if-starts_with.true
 
 pub returns-then-is_ascii_alphabetic : goal.returns-then-is_ascii_alphabetic
 returns-then-is_ascii_alphabetic c =
@@ -34,7 +34,7 @@ returns-then-is_ascii_alphabetic c =
 pub returns-in_default-2 : goal.returns-in_default-2
 returns-in_default-2 c =
     let f = c.in-Some.ensures.lookup in
-    law.says_dash _ _ _ c.skip_spaces-from.ensures _ f.0 f.1 c.in-45.is _ c.unread.ensures _ c.starts_with.ensures.value c.if-starts_with.false
+    law.says_dash _ _ _ c.skip_spaces-from.ensures _ f.0 f.1 c.in-45.is _ c.rest.ensures _ c.starts_with.ensures.value c.if-starts_with.false
 
 pub returns-in_default-2-2 : goal.returns-in_default-2-2
 returns-in_default-2-2 c =
