@@ -7,13 +7,12 @@ ghost use Rattle.resolved_sort.specs.Tree.{primitive};
 ghost use Rattle.resolved_sort.specs.Storage.{kind_flat, kind_op, max_arguments};
 ghost use Rattle.sort_text.specs.Tokens.{is_letter, skip, next};
 ghost use Rattle.sort_text.specs.declared.Unread.TheVariants.{NotASort};
-ghost use Rattle.sort_lexer.specs.Inner.Lexeme.{lexeme_of};
 ghost use Rattle.sort_recogniser.specs.Inner.Says.{Met, HasRoom, Read, ReadRest, same_but_place};
 ghost use Rattle.sort_recogniser.specs.Inner.Cleared.{RecognisedAs, LineRecognised};
 ghost use Rattle.sort_text.specs.Parse as Parse;
 
 use resolved_sort::{ComplexSort, FIRST_CONTAINER, FIRST_PRIMITIVE, Sort};
-use sort_lexer::{Lexeme, Reader, Token, Word};
+use sort_lexer::{Reader, Token, Word};
 use sort_text::{FUNCTION_STEP, MOST_ARGUMENTS, Unread};
 
 // A line is no sort: where its first token stands that cannot follow.
@@ -46,36 +45,23 @@ fn step_of_op(op: ComplexSort) -> u8
 }
 
 // How far a line is recognised, and the steps of what it said so far.
+// kept: methods copy the reader before they ask it, since a call on a field that holds a reference gets no proof.
 #[derive(Drop)]
 struct Recogniser<'a> {
-    line: &'a [u8],
-    at: usize,
+    reader: Reader<'a>,
+    // kept: a buffer and its count, and no Out: a &mut in a struct within this one is lost where its borrow ends.
     steps: &'a mut [u8],
     count: usize,
 }
 
 impl<'a> Recogniser<'a> {
-    // A reader of the line at the position.
-    fn reader(&self) -> Reader<'_>
-        ensures { (result.line.now ≡ self.now.line.now) × (result.at ≡ self.now.at) }
-    {
-        Reader::new(self.line, self.at)
-    }
-
-    // The next token.
-    fn peek(&self) -> Lexeme
-        ensures { result ≡ lexeme_of self.now.line.now self.now.at }
-    {
-        self.reader().next_token()
-    }
-
     // One more step.
     fn push(&mut self, step: u8)
         requires { self.old.count < length self.old.steps.now }
         ensures same_reference { self.new.steps.ghost_name ≡ self.old.steps.ghost_name }
         ensures pushed { self.new.steps.now ≡ set self.old.steps.now self.old.count step }
         ensures counted { self.new.count ≡ self.old.count + 1 }
-        ensures read { (self.new.line ≡ self.old.line) × (self.new.at ≡ self.old.at) }
+        ensures same_reader { self.new.reader ≡ self.old.reader }
     {
         self.steps[self.count] = step;
         self.count += 1;
@@ -85,13 +71,14 @@ impl<'a> Recogniser<'a> {
     fn expect(&mut self, token: Token) -> Result<(), Stuck>
         ensures same_reference { self.new.steps.ghost_name ≡ self.old.steps.ghost_name }
         ensures same_steps { same_but_place self.old self.new }
-        ensures met { Met self.old.line.now self.old.at token self.new.at result }
+        ensures met { Met self.old.reader.line.now self.old.reader.at token self.new.reader.at result }
     {
-        let found = self.peek();
+        let reader = self.reader;
+        let found = reader.next_token();
         if found.token != token {
             return Err(Stuck(found.at));
         }
-        self.at = found.next;
+        self.reader.at = found.next;
         Ok(())
     }
 
@@ -103,16 +90,17 @@ impl<'a> Recogniser<'a> {
         ensures same_reference { self.new.steps.ghost_name ≡ self.old.steps.ghost_name }
         ensures says { ReadRest self.old k self.new result }
     {
-        let found = self.peek();
+        let reader = self.reader;
+        let found = reader.next_token();
         match found.token {
             Token::Hash if k < MOST_ARGUMENTS => {
-                self.at = found.next;
+                self.reader.at = found.next;
                 self.operand()?;
                 self.rest(k + 1)
             }
             Token::Hash => Err(Stuck(found.at)),
             Token::Arrow => {
-                self.at = found.next;
+                self.reader.at = found.next;
                 self.sort()?;
                 self.push(FUNCTION_STEP + k);
                 Ok(())
@@ -127,9 +115,9 @@ impl<'a> Recogniser<'a> {
     fn bracketed(&mut self, op: ComplexSort) -> Result<(), Stuck>
         requires { HasRoom self.old }
         ensures same_reference { self.new.steps.ghost_name ≡ self.old.steps.ghost_name }
-        ensures says { Read self.old self.old.at
-            (Parse.bracketed Parse.sort op (skip (drop self.old.at self.old.line.now))
-            (next is_letter (drop self.old.at self.old.line.now)))
+        ensures says { Read self.old self.old.reader.at
+            (Parse.bracketed Parse.sort op (skip (drop self.old.reader.at self.old.reader.line.now))
+            (next is_letter (drop self.old.reader.at self.old.reader.line.now)))
             self.new result }
     {
         self.expect(Token::Open)?;
@@ -144,19 +132,20 @@ impl<'a> Recogniser<'a> {
     fn operand(&mut self) -> Result<(), Stuck>
         requires { HasRoom self.old }
         ensures same_reference { self.new.steps.ghost_name ≡ self.old.steps.ghost_name }
-        ensures says { Read self.old (self.old.at + 1)
-            (Parse.operand Parse.sort (drop self.old.at self.old.line.now)) self.new result }
+        ensures says { Read self.old (self.old.reader.at + 1)
+            (Parse.operand Parse.sort (drop self.old.reader.at self.old.reader.line.now)) self.new result }
     {
-        let found = self.peek();
+        let reader = self.reader;
+        let found = reader.next_token();
         match found.token {
-            Token::Word => match self.reader().word(found) {
+            Token::Word => match reader.word(found) {
                 Some(Word::Basic(sort)) => {
-                    self.at = found.next;
+                    self.reader.at = found.next;
                     self.push(step_of_sort(sort));
                     Ok(())
                 }
                 Some(Word::Container(op)) => {
-                    self.at = found.next;
+                    self.reader.at = found.next;
                     self.bracketed(op)
                 }
                 None => Err(Stuck(found.at)),
@@ -170,8 +159,8 @@ impl<'a> Recogniser<'a> {
     fn sort(&mut self) -> Result<(), Stuck>
         requires { HasRoom self.old }
         ensures same_reference { self.new.steps.ghost_name ≡ self.old.steps.ghost_name }
-        ensures says { Read self.old (self.old.at + 1)
-            (Parse.sort (drop self.old.at self.old.line.now)) self.new result }
+        ensures says { Read self.old (self.old.reader.at + 1)
+            (Parse.sort (drop self.old.reader.at self.old.reader.line.now)) self.new result }
     {
         self.operand()?;
         self.rest(1)
@@ -179,10 +168,10 @@ impl<'a> Recogniser<'a> {
 
     // A line: a sort and nothing but spaces after it.
     fn whole_line(&mut self) -> Result<(), Stuck>
-        requires { HasRoom self.old × (self.old.at ≡ 0) × (self.old.count ≡ 0) }
+        requires { HasRoom self.old × (self.old.reader.at ≡ 0) × (self.old.count ≡ 0) }
         ensures same_reference { self.new.steps.ghost_name ≡ self.old.steps.ghost_name }
-        ensures says { Read self.old 0 (Parse.line self.old.line.now) self.new result }
-        ensures to_its_end { OnOk result (self.new.at ≡ length self.old.line.now) }
+        ensures says { Read self.old 0 (Parse.line self.old.reader.line.now) self.new result }
+        ensures to_its_end { OnOk result (self.new.reader.at ≡ length self.old.reader.line.now) }
     {
         self.sort()?;
         self.expect(Token::End)
@@ -196,8 +185,7 @@ fn steps_of(line: &[u8], steps: &mut [u8]) -> Result<usize, Stuck>
     ensures says { RecognisedAs line.now steps.new result }
 {
     let mut recogniser = Recogniser {
-        line,
-        at: 0,
+        reader: Reader::new(line, 0),
         steps,
         count: 0,
     };

@@ -43,31 +43,31 @@ SaysRest line at old n k out r =
 
 -- the steps written, with one for each byte that is left
 abbrev pub needed : Recogniser → ℕ
-needed r = r.count + (length r.line.now - r.at)
+needed r = r.count + (length r.reader.line.now - r.reader.at)
 
 abbrev pub HasRoom : Recogniser → Type 0
-HasRoom r = (r.at ≤ length r.line.now) × (needed r ≤ length r.steps.now)
+HasRoom r = (r.reader.at ≤ length r.reader.line.now) × (needed r ≤ length r.steps.now)
 
 -- The line stays, and so does the length of the buffer.
 abbrev pub Same : Recogniser → Recogniser → Type 0
-Same old new = (new.line.now ≡ old.line.now) × (length new.steps.now ≡ length old.steps.now)
+Same old new = (new.reader.line.now ≡ old.reader.line.now) × (length new.steps.now ≡ length old.steps.now)
 
 -- Reading goes on from old to new by P, at lowest or later.
 pub record Read (old : Recogniser) (lowest : ℕ) (P : Parsed) (new : Recogniser) (r : Result (Unit {0}) Stuck)
     : Type 0 where
   pub same : Same old new
-  pub says : Says old.line.now lowest (needed old) (take old.count old.steps.now) P new.steps.now
-      (ended new.at new.count r)
+  pub says : Says old.reader.line.now lowest (needed old) (take old.count old.steps.now) P new.steps.now
+      (ended new.reader.at new.count r)
 
 pub record ReadRest (old : Recogniser) (k : ℕ) (new : Recogniser) (r : Result (Unit {0}) Stuck) : Type 0 where
   pub same : Same old new
-  pub says : SaysRest old.line.now old.at old.steps.now old.count k new.steps.now
-      (ended new.at new.count r)
+  pub says : SaysRest old.reader.line.now old.reader.at old.steps.now old.count k new.steps.now
+      (ended new.reader.at new.count r)
 
 -- all but the position
 abbrev pub same_but_place : Recogniser → Recogniser → Type 0
 same_but_place old new =
-    (new.line.now ≡ old.line.now) × (new.steps.now ≡ old.steps.now) × (new.count ≡ old.count)
+    (new.reader.line.now ≡ old.reader.line.now) × (new.steps.now ≡ old.steps.now) × (new.count ≡ old.count)
 
 -- the next token is the one that is expected, and the position is then behind it; or it stands where reading is stuck
 abbrev pub Met : List ℕ → ℕ → Token → ℕ → Result (Unit {0}) Stuck → Type 0

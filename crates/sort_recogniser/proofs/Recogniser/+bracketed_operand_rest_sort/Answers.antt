@@ -1,8 +1,6 @@
 -- Each way by its law: what a callee ensures, what a test says and what a match binds are the law's premises. Assumes nothing.
-use Rattle.std.proofs.Common.{arith, refl, ap, ◌∙◌, ◌-◌, take, drop, Some}
+use Rattle.std.proofs.Common.{arith, refl, ap, ◌∙◌, Some}
 use Rattle.std.proofs.lemmas.Result.{err_from_is_err_and}
-use Rattle.sort_text.specs.Parse.{meaning}
-use Rattle.sort_lexer.specs.Inner.Meant.{meant}
 use Rattle.sort_lexer.specs.declared.Token.TheVariants.{Word, Hash, Arrow}
 use Rattle.sort_recogniser.proofs.States as way
 use Rattle.sort_recogniser.proofs.Recogniser.+bracketed_operand_rest_sort.Goals as goal
@@ -38,102 +36,100 @@ pub bracketed-returns-clause-says : goal.bracketed-returns-clause-says
 bracketed-returns-clause-says t c =
     way.closes c.args.self.now c.requires c.args.op c.expect.new.self c.in_ok-expect.ensures.same_steps c.in_ok-expect.ensures.met
     c.sort.new.self c.in_ok-sort.ensures.says c.expect-2.new.self c.in_ok-expect-2.ensures.same_steps c.in_ok-expect-2.ensures.met _ c.step_of_op.ensures c.push.new.self
-    (record { line = ap (λ x. x.now) c.push.ensures.read.0; at = c.push.ensures.read.1; steps = c.push.ensures.pushed; count = c.push.ensures.counted })
+    (record { reader = c.push.ensures.same_reader; steps = c.push.ensures.pushed; count = c.push.ensures.counted })
 
 pub operand-push-requires : goal.operand-push-requires
 operand-push-requires t c =
-    let x = way.further c.args.self.now c.requires _ c.peek-found.ensures Word c.in-Word.is (omega arith) in
-    let y = way.room_after c.args.self.now c.requires _ c.peek-found.ensures Word c.in-Word.is in
+    let x = way.further c.args.self.now c.requires _ c.next_token-found.ensures Word c.in-Word.is (omega arith) in
+    let y = way.room_after c.args.self.now c.requires _ c.next_token-found.ensures Word c.in-Word.is in
     omega (arith, x, y.0, c.requires.1)
 
 pub operand-bracketed-requires : goal.operand-bracketed-requires
 operand-bracketed-requires t c =
-    let x = way.further c.args.self.now c.requires _ c.peek-found.ensures Word c.in-Word.is (omega arith) in
-    let y = way.room_after c.args.self.now c.requires _ c.peek-found.ensures Word c.in-Word.is in
+    let x = way.further c.args.self.now c.requires _ c.next_token-found.ensures Word c.in-Word.is (omega arith) in
+    let y = way.room_after c.args.self.now c.requires _ c.next_token-found.ensures Word c.in-Word.is in
     (omega (arith, x, y.0), y)
 
 pub operand-returns-in-Some-Basic-clause-says : goal.operand-returns-in-Some-Basic-clause-says
 operand-returns-in-Some-Basic-clause-says t c =
-    way.takes_sort c.args.self.now c.requires _ c.peek-found.ensures c.in-Word.is c.word.result
-    (c.word.ensures ∙ ap (λ x. meant (meaning (take (c.peek-found.result.next - c.peek-found.result.at) (drop c.peek-found.result.at x)))) c.reader.ensures.0)
-    _ (c.in-Some-Basic.is ∙ ap Some c.in-Some-Basic.field-0-is) _ c.step_of_sort.ensures c.push.new.self
-    (record { line = ap (λ x. x.now) c.push.ensures.read.0; at = c.push.ensures.read.1; steps = c.push.ensures.pushed; count = c.push.ensures.counted })
+    way.takes_sort c.args.self.now c.requires _ c.next_token-found.ensures c.in-Word.is c.word.result
+    c.word.ensures _ (c.in-Some-Basic.is ∙ ap Some c.in-Some-Basic.field-0-is) _ c.step_of_sort.ensures c.push.new.self
+    (record { reader = c.push.ensures.same_reader; steps = c.push.ensures.pushed; count = c.push.ensures.counted })
 
 pub operand-returns-in-Some-Container-clause-says : goal.operand-returns-in-Some-Container-clause-says
 operand-returns-in-Some-Container-clause-says t c =
-    way.takes_container c.args.self.now c.requires _ c.peek-found.ensures c.in-Word.is c.word.result
-    (c.word.ensures ∙ ap (λ x. meant (meaning (take (c.peek-found.result.next - c.peek-found.result.at) (drop c.peek-found.result.at x)))) c.reader.ensures.0)
-    _ (c.in-Some-Container.is ∙ ap Some c.in-Some-Container.field-0-is) c.bracketed.new.self _ c.bracketed.ensures.says
+    way.takes_container c.args.self.now c.requires _ c.next_token-found.ensures c.in-Word.is c.word.result
+    c.word.ensures _ (c.in-Some-Container.is ∙ ap Some c.in-Some-Container.field-0-is) c.bracketed.new.self _ c.bracketed.ensures.says
 
 pub operand-returns-in-None-clause-says : goal.operand-returns-in-None-clause-says
 operand-returns-in-None-clause-says t c =
-    way.word_refuses c.args.self.now c.requires _ c.peek-found.ensures c.in-Word.is c.word.result
-    (c.word.ensures ∙ ap (λ x. meant (meaning (take (c.peek-found.result.next - c.peek-found.result.at) (drop c.peek-found.result.at x)))) c.reader.ensures.0) c.in-None.is
+    way.word_refuses c.args.self.now c.requires _ c.next_token-found.ensures c.in-Word.is c.word.result
+    c.word.ensures c.in-None.is
 
 pub operand-returns-in_default : goal.operand-returns-in_default
 operand-returns-in_default t c =
-    record { same_reference = refl; says = way.operand_refuses c.args.self.now c.requires _ c.peek-found.ensures c.in_default.not-Word }
+    record { same_reference = refl; says = way.operand_refuses c.args.self.now c.requires _ c.next_token-found.ensures c.in_default.not-Word }
 
 pub rest-operand-requires : goal.rest-operand-requires
 rest-operand-requires t c =
-    let x = way.further c.args.self.now c.requires.0 _ c.peek-found.ensures Hash c.in-Hash.is (omega arith) in
-    let y = way.room_after c.args.self.now c.requires.0 _ c.peek-found.ensures Hash c.in-Hash.is in
+    let x = way.further c.args.self.now c.requires.0 _ c.next_token-found.ensures Hash c.in-Hash.is (omega arith) in
+    let y = way.room_after c.args.self.now c.requires.0 _ c.next_token-found.ensures Hash c.in-Hash.is in
     (omega (arith, x, y.0), y)
 
 pub rest-returns-in_err-operand-in-Hash-clause-says :
     goal.rest-returns-in_err-operand-in-Hash-clause-says
 rest-returns-in_err-operand-in-Hash-clause-says t c =
     let p = err_from_is_err_and c.from_residual.result c.from_residual.ensures.1 in
-    rw (p.1, p.2) (way.next_refuses c.args.self.now c.requires.0 _ c.peek-found.ensures c.args.k c.in-Hash.is c.if-k-lt-MOST_ARGUMENTS.true
+    rw (p.1, p.2) (way.next_refuses c.args.self.now c.requires.0 _ c.next_token-found.ensures c.args.k c.in-Hash.is c.if-k-lt-MOST_ARGUMENTS.true
     c.operand.new.self _ c.in_err-operand-in-Hash.ensures.says _ refl)
 
 pub rest-rest-requires : goal.rest-rest-requires
 rest-rest-requires t c =
-    let x = way.room_next c.args.self.now c.requires.0 _ c.peek-found.ensures c.args.k c.in-Hash.is c.if-k-lt-MOST_ARGUMENTS.true
+    let x = way.room_next c.args.self.now c.requires.0 _ c.next_token-found.ensures c.args.k c.in-Hash.is c.if-k-lt-MOST_ARGUMENTS.true
     c.operand.new.self _ c.in_ok-operand-in-Hash.ensures.says _ refl in
     (omega (arith, x.0.0, x.1, x.2), (x.0, omega arith, omega (arith, c.if-k-lt-MOST_ARGUMENTS.true)))
 
 pub rest-sort-requires : goal.rest-sort-requires
 rest-sort-requires t c =
-    let x = way.further c.args.self.now c.requires.0 _ c.peek-found.ensures Arrow c.in-Arrow.is (omega arith) in
-    let y = way.room_after c.args.self.now c.requires.0 _ c.peek-found.ensures Arrow c.in-Arrow.is in
+    let x = way.further c.args.self.now c.requires.0 _ c.next_token-found.ensures Arrow c.in-Arrow.is (omega arith) in
+    let y = way.room_after c.args.self.now c.requires.0 _ c.next_token-found.ensures Arrow c.in-Arrow.is in
     (omega (arith, x, y.0), y)
 
 pub rest-returns-in_err-sort-in-Arrow-clause-says :
     goal.rest-returns-in_err-sort-in-Arrow-clause-says
 rest-returns-in_err-sort-in-Arrow-clause-says t c =
     let p = err_from_is_err_and c.from_residual-in_err-sort-in-Arrow.result c.from_residual-in_err-sort-in-Arrow.ensures.1 in
-    rw (p.1, p.2) (way.range_refuses c.args.self.now c.requires.0 _ c.peek-found.ensures c.args.k c.in-Arrow.is
+    rw (p.1, p.2) (way.range_refuses c.args.self.now c.requires.0 _ c.next_token-found.ensures c.args.k c.in-Arrow.is
     c.sort.new.self _ c.in_err-sort-in-Arrow.ensures.says _ refl)
 
 pub rest-push-requires : goal.rest-push-requires
 rest-push-requires t c =
-    way.range_has_room c.args.self.now c.requires.0 _ c.peek-found.ensures c.args.k c.in-Arrow.is c.sort.new.self _ c.in_ok-sort-in-Arrow.ensures.says _ refl
+    way.range_has_room c.args.self.now c.requires.0 _ c.next_token-found.ensures c.args.k c.in-Arrow.is c.sort.new.self _ c.in_ok-sort-in-Arrow.ensures.says _ refl
 
 pub rest-returns-in_ok-operand-in-Hash-clause-says :
     goal.rest-returns-in_ok-operand-in-Hash-clause-says
 rest-returns-in_ok-operand-in-Hash-clause-says t c =
-    way.next_goes_on c.args.self.now c.requires.0 _ c.peek-found.ensures c.args.k c.in-Hash.is c.if-k-lt-MOST_ARGUMENTS.true
+    way.next_goes_on c.args.self.now c.requires.0 _ c.next_token-found.ensures c.args.k c.in-Hash.is c.if-k-lt-MOST_ARGUMENTS.true
     c.operand.new.self _ c.in_ok-operand-in-Hash.ensures.says _ refl c.rest.new.self _ c.rest.ensures.says
 
 pub rest-returns-in_ok-sort-in-Arrow-clause-says :
     goal.rest-returns-in_ok-sort-in-Arrow-clause-says
 rest-returns-in_ok-sort-in-Arrow-clause-says t c =
-    way.range_goes_on c.args.self.now c.requires.0 _ c.peek-found.ensures c.args.k c.in-Arrow.is
+    way.range_goes_on c.args.self.now c.requires.0 _ c.next_token-found.ensures c.args.k c.in-Arrow.is
     c.sort.new.self _ c.in_ok-sort-in-Arrow.ensures.says _ refl _ refl c.push.new.self
-    (record { line = ap (λ x. x.now) c.push.ensures.read.0; at = c.push.ensures.read.1; steps = c.push.ensures.pushed; count = c.push.ensures.counted })
+    (record { reader = c.push.ensures.same_reader; steps = c.push.ensures.pushed; count = c.push.ensures.counted })
 
 pub rest-returns-in-Hash-2-clause-says : goal.rest-returns-in-Hash-2-clause-says
 rest-returns-in-Hash-2-clause-says t c =
-    way.no_more c.args.self.now c.requires.0 _ c.peek-found.ensures c.args.k c.in-Hash.is (omega arith)
+    way.no_more c.args.self.now c.requires.0 _ c.next_token-found.ensures c.args.k c.in-Hash.is (omega arith)
 
 pub rest-returns-in_default-clause-says : goal.rest-returns-in_default-clause-says
 rest-returns-in_default-clause-says t c =
-    way.one_alone c.args.self.now c.requires.0 _ c.peek-found.ensures c.args.k c.in_default.not-Hash c.in_default.not-Arrow c.if-k-eq1.true
+    way.one_alone c.args.self.now c.requires.0 _ c.next_token-found.ensures c.args.k c.in_default.not-Hash c.in_default.not-Arrow c.if-k-eq1.true
 
 pub rest-returns-in_default-2-clause-says : goal.rest-returns-in_default-2-clause-says
 rest-returns-in_default-2-clause-says t c =
-    way.several_alone c.args.self.now c.requires.0 _ c.peek-found.ensures c.args.k c.in_default.not-Hash c.in_default.not-Arrow c.if-k-eq1.false
+    way.several_alone c.args.self.now c.requires.0 _ c.next_token-found.ensures c.args.k c.in_default.not-Hash c.in_default.not-Arrow c.if-k-eq1.false
 
 pub sort-returns-in_err-operand-clause-says : goal.sort-returns-in_err-operand-clause-says
 sort-returns-in_err-operand-clause-says t c =
