@@ -3,3 +3,4 @@ mod Ways
 pub mod Entry
 pub mod Codes
 pub mod Answered
+mod Steps
