@@ -24,6 +24,7 @@ pub enum NameTarget {
 }
 
 // The kinds of names and overloads, as their rows have them. Only an operation has a sort, in a word of its own.
+// kept: beside NameTarget, whose Op holds a sort: a row has the kind and the sort as two words.
 #[derive(Clone, Copy, Debug, PartialEq, Eq)]
 pub enum NameKind {
     Variable = 1,

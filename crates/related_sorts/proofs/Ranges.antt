@@ -10,7 +10,7 @@ use native.Mathlib.Omega.{arith}
 use native.Mathlib.Numerals.{add-one}
 use native.Mathlib.Decide.{ℕ_discrete}
 use lib.ListN.{length, get_or, set, take}
-use lib.Seq.{get_or-set_same, get_or-set_other}
+use lib.Seq.{get_or-set_same, get_or-set_other, get_or-take, length-take-le}
 use Rattle.resolved_sort.specs.Tree.{Flat, unit, primitive, def, typevar}
 use Rattle.resolved_sort.specs.declared.Sort.{Sort}
 use Rattle.resolved_sort.specs.declared.ComplexSort.{ComplexSort}
@@ -353,3 +353,27 @@ module _ (fs : List ℕ) (count : ℕ) (O₀ : Makes (List ℕ)) where
 
         pub rise_ends : (c : ℕ) (V : Lent) → P ≡ no_room c V → no_room c V ≡ outwards fs count O₀
         rise_ends c V e = sym (outwards_full fs (left - 1) c V) ∙ subst (λ (Q : Makes (List ℕ)). outwards fs (left - 1) Q ≡ outwards fs count O₀) e further
+
+-- The functions noted are the front of what was lent: over that slice, its length is their count.
+front_outwards : (c : ℕ) (fs : List ℕ) (i : ℕ) (O : Makes (List ℕ)) → i ≤ c → outwards (take c fs) i O ≡ outwards fs i O
+unfolding outwards
+front_outwards c fs zero O l = refl
+front_outwards c fs (suc i) O l =
+    ap (λ (f : ℕ). outwards (take c fs) i (O and-then over_function f)) (get_or-take c fs i 0 l)
+    ∙ front_outwards c fs i (O and-then over_function (get_or fs i 0)) (omega (arith, l))
+
+front_stands : (c : ℕ) (fs : List ℕ) (i : ℕ) (O : Makes (List ℕ)) → i ≤ c → AllStand fs i O → AllStand (take c fs) i O
+unfolding AllStand
+front_stands c fs zero O l s = s
+front_stands c fs (suc i) O l s =
+    let e : get_or fs i 0 ≡ get_or (take c fs) i 0 = sym (get_or-take c fs i 0 l) in
+    (
+      subst (λ (f : ℕ). Stands f O) e s.0,
+      subst (λ (f : ℕ). AllStand (take c fs) i (O and-then over_function f)) e (front_stands c fs i (O and-then over_function (get_or fs i 0)) (omega (arith, l)) s.1),
+    )
+
+pub slice_outwards : (c : ℕ) (fs : List ℕ) (O : Makes (List ℕ)) → c ≤ length fs → outwards (take c fs) (length (take c fs)) O ≡ outwards fs c O
+slice_outwards c fs O h = ap (λ (i : ℕ). outwards (take c fs) i O) (length-take-le c fs h) ∙ front_outwards c fs c O (omega arith)
+
+pub slice_stands : (c : ℕ) (fs : List ℕ) (O : Makes (List ℕ)) → c ≤ length fs → AllStand fs c O → AllStand (take c fs) (length (take c fs)) O
+slice_stands c fs O h s = subst (λ (i : ℕ). AllStand (take c fs) i O) (sym (length-take-le c fs h)) (front_stands c fs c O (omega arith) s)

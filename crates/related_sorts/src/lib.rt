@@ -6,7 +6,7 @@
 ghost use Rattle.std.specs.Prelude.{◌≡◌, true, false, ◌+◌, ◌<◌, ◌≤◌, length, take};
 ghost use Rattle.std.proofs.lemmas.List.Edits.{sets};
 ghost use Rattle.resolved_sort.specs.Tree.{primitive};
-ghost use Rattle.resolved_sort.specs.Storage.{max_sorts, max_arguments, kind_flat, row_at};
+ghost use Rattle.resolved_sort.specs.Storage.{max_sorts, max_arguments, row_at};
 ghost use Rattle.resolved_sort.specs.Rows.{Checked};
 ghost use Rattle.unification.specs.Inner.Term.{parts_of};
 ghost use Rattle.unification.specs.Nodes.{max_places, node_entries_at, binds_of, node_at};
@@ -307,21 +307,16 @@ impl Arena<'_> {
     }
 
     // The functions over what was found for their final range, the innermost first.
-    fn over_functions(
-        &mut self,
-        functions: &[u16],
-        count: u16,
-        found: Listed,
-    ) -> Result<Listed, Full>
-        requires { AllStand functions.now count (made (places found) (world self.old))
-            × (count ≤ length functions.now) }
+    // kept: by index from the back: over `iter().rev()` the invariant would speak of what was yielded.
+    fn over_functions(&mut self, functions: &[u16], found: Listed) -> Result<Listed, Full>
+        requires { AllStand functions.now (length functions.now) (made (places found) (world self.old)) }
         ensures keeps { Keeps self.old self.new }
         ensures lists { Lists self.new result
-            (outwards functions.now count (made (places found) (world self.old))) }
+            (outwards functions.now (length functions.now) (made (places found) (world self.old))) }
     {
         let mut over = found;
-        for i in (0..count).rev() {
-            over = self.over_function(InferSortId(functions[i as usize]), over)?;
+        for i in (0..functions.len()).rev() {
+            over = self.over_function(InferSortId(functions[i]), over)?;
         }
         Ok(over)
     }
@@ -350,7 +345,7 @@ impl Arena<'_> {
         let Some(ranges) = self.related_head(last.range, up)? else {
             return Ok(None);
         };
-        Ok(Some(self.over_functions(&functions, last.count, ranges)?))
+        Ok(Some(self.over_functions(&functions[..last.count as usize], ranges)?))
     }
 
     // The places, and what the variables there are bound to.
