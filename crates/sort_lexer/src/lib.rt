@@ -42,6 +42,14 @@ pub enum Word {
     Container(ComplexSort),
 }
 
+// The end of the caller's own line that starts at `at`; past the end it is empty.
+// Ruled out: an end that starts one byte late; the whole line for a position past its end.
+pub fn unread(line: &[u8], at: usize) -> &[u8]
+    ensures { result.now ≡ drop at line.now }
+{
+    rest(line, at)
+}
+
 // The bytes of the line from `from` to `to`, as far as it has them.
 pub fn between(line: &[u8], from: usize, to: usize) -> &[u8]
     ensures { result.now ≡ take (to - from) (drop from line.now) }

@@ -50,8 +50,7 @@ pub fn copied<const N: usize>(words: &[u16], at: usize) -> [u16; N]
     copied
 }
 
-// What a list has from a place on; past its end it is empty.
-// Ruled out: an end that starts one later; the whole list for a place past its end.
+// What a list has from a place on; past its end it is empty, and not the whole list.
 pub fn rest<T>(list: &[T], at: usize) -> &[T]
     ensures { result.now ≡ drop at list.now }
 {
