@@ -1,19 +1,25 @@
--- Reading digits from left to right comes to the value of all of them; reading numbers one by one to the numbers of the
--- line. Assumes nothing.
+-- The library reads the digits that a text starts with as the number that they write; reading numbers one by one comes
+-- to the numbers of the line. Assumes nothing.
 use mathlib.Core.Path.{◌≡◌, refl, sym, ap, ◌∙◌, subst}
 use mathlib.Core.Bool.{Bool, true, false, cond, not, and-eq-true_iff}
+use Rattle.std.proofs.Common.{rules, Bor}
+use Rattle.std.proofs.lemmas.Str.{IsUtf8-from_ascii}
+use Rattle.std.proofs.lemmas.Str.Parse.{IsNumeralModel, numerals_by_fold, tells_all_ascii_digits, parse_digits}
+use Rattle.std.specs.Bool.{then_some}
 use Rattle.std.specs.Char.{is_ascii_digit}
 use Rattle.std.specs.List.{position_or_len}
 use Rattle.std.specs.Option.{unwrap_or}
+use Rattle.std.specs.Result.{OkIff, result_ok}
+use Rattle.std.specs.Str.{IsUtf8, all_ascii_digits}
+use Rattle.std.specs.Str.Parse.{ParsesUnsigned}
 use lib.Dec.{leb, ltb}
 use mathlib.Core.List.{List, [], ◌∷◌}
-use Prim.Native.Nat.{ℕ, zero, suc, ◌+◌, ◌*◌, ◌-◌, ◌<◌, ◌≤◌}
-use native.Mathlib.Numerals.{add-one}
+use Prim.Native.Nat.{ℕ, zero, suc, ◌+◌, ◌*◌, ◌-◌, ◌^◌, ◌<◌, ◌≤◌}
 use native.Mathlib.Omega.{arith}
-use lib.ListN.{length, get_or, set, take, drop, length-drop, drop_of_length-le}
-use lib.Seq.{drop-cons, length-take-le, get_or-take}
-use borrow.Author.Tests.{lt-ltb, le-ltb, le-leb, lt-leb, leb-true, ltb-false, eq-eqb, ne_eqb}
-use Rattle.std.specs.Prelude.{Option, Some, None}
+use lib.ListN.{length, get_or, set, take, drop, length-drop}
+use lib.Seq.{length-take-le}
+use borrow.Author.Tests.{lt-ltb, le-ltb, le-leb, lt-leb, leb-true, leb-false, ltb-false, eq-eqb, ne_eqb}
+use Rattle.std.specs.Prelude.{Option, Some, None, Result, Ok, Err, MatchResult}
 use Rattle.replay.specs.declared.Fields.{Fields}
 use Rattle.replay.specs.Inner.Numbers.{digits, value_after, too_large, number_of, number_at, all_read, after_number, fields_from}
 
@@ -51,67 +57,80 @@ count_by_place bs o n e f =
     go true t q w = q
     go false t q w = let k = ltb-false _ _ t in omega (arith, k, q, w)
 
-is_digit : (b : ℕ) → is_ascii_digit b ≡ true → (48 ≤ b) × (b ≤ 57)
-is_digit b e = let m = (and-eq-true_iff (leb 48 b) (leb b 57)).0 e in (leb-true 48 b m.0, leb-true b 57 m.1)
-
--- each of them, by its byte
-pub record DigitAt (bs : List ℕ) (i : ℕ) : Type 0 where
-  pub least : 48 ≤ get_or bs i 0
-  pub most : get_or bs i 0 ≤ 57
-  pub is : get_or (digits bs) i 0 ≡ get_or bs i 0 - 48
-
-pub digit_at : (bs : List ℕ) (i : ℕ) → i < length (digits bs) → DigitAt bs i
+-- what stands before the first byte that is no digit are digits
+leading_digits : (bs : List ℕ) → all_ascii_digits (take (length (digits bs)) bs) ≡ true
 unfolding digits
-digit_at [] i h = absurd (omega (arith, h))
-digit_at (b ∷ bs) i h = go (is_ascii_digit b) refl (digit_at bs) i h
+leading_digits [] = refl
+leading_digits (b ∷ bs) = go (is_ascii_digit b) refl (leading_digits bs)
   where
-    go : (t : Bool) → is_ascii_digit b ≡ t → ((i : ℕ) → i < length (digits bs) → DigitAt bs i)
-        → (i : ℕ) → i < length (cond t ((b - 48) ∷ digits bs) []) → DigitAt (b ∷ bs) i
-    go true e each zero h = record { least = (is_digit b e).0; most = (is_digit b e).1; is = rw e refl }
-    go true e each (suc i) h =
-        let d = each i (omega (arith, h)) in record { least = d.least; most = d.most; is = rw e d.is }
-    go false e each i h = absurd (omega (arith, h))
+    go : (t : Bool) → is_ascii_digit b ≡ t → all_ascii_digits (take (length (digits bs)) bs) ≡ true
+        → all_ascii_digits (take (length (cond t ((b - 48) ∷ digits bs) [])) (b ∷ bs)) ≡ true
+    go true e h = rw (e, h) refl
+    go false e h = refl
 
--- the digits from the k-th on continue those of value v
-pub record Going (ds : List ℕ) (k v : ℕ) : Type 0 where
-  pub small : v < too_large
-  pub value : value_after 0 ds ≡ value_after v (drop k ds)
+-- the value of the digits that bytes are, after those of v
+value_on : ℕ → List ℕ → ℕ
+value_on v [] = v
+value_on v (b ∷ bs) = value_on (v * 10 + (b - 48)) bs
 
-pub going_start : (ds : List ℕ) → Going ds 0 0
-going_start ds = record { small = omega arith; value = refl }
+same_value : (bs : List ℕ) (v : ℕ) → value_on v (take (length (digits bs)) bs) ≡ value_after v (digits bs)
+unfolding digits value_on value_after
+same_value [] v = refl
+same_value (b ∷ bs) v = go (is_ascii_digit b) (same_value bs)
+  where
+    go : (t : Bool) → ((v : ℕ) → value_on v (take (length (digits bs)) bs) ≡ value_after v (digits bs))
+        → value_on v (take (length (cond t ((b - 48) ∷ digits bs) [])) (b ∷ bs)) ≡ value_after v (cond t ((b - 48) ∷ digits bs) [])
+    go true k = k (v * 10 + (b - 48))
+    go false k = refl
 
-pub going_more : (bs : List ℕ) (k v : ℕ) → Going (digits bs) k v → k < length (digits bs) → v ≤ 999999999999999999
-    → Going (digits bs) (k + 1) (v * 10 + (get_or bs k 0 - 48))
-unfolding value_after
-going_more bs k v g h few =
-    let d = digit_at bs k h in
-    record {
-      small = omega (arith, few, d.most);
-      value = g.value ∙ ap (value_after v) (drop-cons (digits bs) k 0 h)
-          ∙ ap (λ x. value_after (v * 10 + x) (drop (suc k) (digits bs))) d.is
-          ∙ ap (λ j. value_after (v * 10 + (get_or bs k 0 - 48)) (drop j (digits bs))) (sym (add-one k));
-    }
+digits_model : IsNumeralModel (λ ds. all_ascii_digits ds ≡ true) (value_on 0)
+unfolding value_on
+digits_model = numerals_by_fold _ tells_all_ascii_digits value_on (search rules)
 
-no_digits : (ds : List ℕ) (at : ℕ) → length ds ≡ 0 → ◌≡◌ {A = Option (ℕ × ℕ)} None (number_of at ds)
+ascii : (bs : List ℕ) → all_ascii_digits bs ≡ true → (i : ℕ) → get_or bs i 0 < 128
+ascii [] h i = omega arith
+ascii (b ∷ bs) h zero =
+    let d = (and-eq-true_iff (is_ascii_digit b) (all_ascii_digits bs)).0 h in
+    omega (arith, leb-true b 57 ((and-eq-true_iff (leb 48 b) (leb b 57)).0 d.0).1)
+ascii (b ∷ bs) h (suc i) = ascii bs ((and-eq-true_iff (is_ascii_digit b) (all_ascii_digits bs)).0 h).1 i
+
+-- what `from_utf8` made of bytes that are text
+module _ {E : Type 0} (r : Result (Bor (List ℕ)) E) (w : List ℕ) (P : E → Type 0)
+    (h : MatchResult r (λ s. (s.now ≡ w) × IsUtf8 w) (λ e. ¬ (IsUtf8 w) × P e)) where
+  pub is_text : IsUtf8 w → result_ok r ≡ None → ⊥
+  is_text u e = go r h e
+    where
+      go : (r : Result (Bor (List ℕ)) E) → MatchResult r (λ s. (s.now ≡ w) × IsUtf8 w) (λ e. ¬ (IsUtf8 w) × P e) → result_ok r ≡ None → ⊥
+      go (Ok s) h e = cc
+      go (Err s) h e = h.0 u
+
+  pub text_of : (s : Bor (List ℕ)) → result_ok r ≡ Some s → s.now ≡ w
+  text_of s e = go r h e
+    where
+      go : (r : Result (Bor (List ℕ)) E) → MatchResult r (λ s. (s.now ≡ w) × IsUtf8 w) (λ e. ¬ (IsUtf8 w) × P e) → result_ok r ≡ Some s → s.now ≡ w
+      go (Ok t) h e = cc
+      go (Err t) h e = absurd cc
+
+-- no number, where no digit stands or where the value is too large, and else the value
+no_number : (ds : List ℕ) (at : ℕ) → ((0 < length ds) × (value_after 0 ds < 2 ^ 64) → ⊥) → ◌≡◌ {A = Option (ℕ × ℕ)} None (number_of at ds)
 unfolding number_of
-no_digits [] at e = refl
-no_digits (d ∷ ds) at e = absurd (omega (arith, e))
+no_number [] at h = refl
+no_number (d ∷ ds) at h =
+    rw (le-ltb (value_after 0 (d ∷ ds)) too_large (omega (arith, (λ (m : value_after 0 (d ∷ ds) < 18446744073709551616). h (omega arith, m)))))
 
-some_digits : (ds : List ℕ) (at v : ℕ) → value_after 0 ds ≡ v → v < too_large → (length ds ≡ 0 → ⊥)
-    → Some (v, at + length ds) ≡ number_of at ds
+a_number : (ds : List ℕ) (at v : ℕ) → 0 < length ds → v ≡ value_after 0 ds
+    → then_some {T = ℕ × ℕ} (leb v 9999999999999999999) (v, at + length ds) ≡ number_of at ds
 unfolding number_of
-some_digits [] at v e h n = absurd (n refl)
-some_digits (d ∷ ds) at v e h n = rw (e, lt-ltb v too_large h)
+a_number [] at v h e = absurd (omega (arith, h))
+a_number (d ∷ ds) at v h e = rw e (go (leb x 9999999999999999999) refl)
+  where
+    x : ℕ
+    x = value_after 0 (d ∷ ds)
 
-grows : (ds : List ℕ) (v : ℕ) → v ≤ value_after v ds
-unfolding value_after
-grows [] v = omega arith
-grows (d ∷ ds) v = omega (arith, grows ds (v * 10 + d))
-
-large : (D : List ℕ) (at : ℕ) → too_large ≤ value_after 0 D → ◌≡◌ {A = Option (ℕ × ℕ)} None (number_of at D)
-unfolding number_of
-large [] at h = refl
-large (d ∷ ds) at h = rw (le-ltb _ _ h)
+    go : (t : Bool) → leb x 9999999999999999999 ≡ t
+        → then_some {T = ℕ × ℕ} t (x, at + length (d ∷ ds)) ≡ cond (ltb x too_large) (Some (x, at + length (d ∷ ds))) None
+    go true t = rw (lt-ltb x too_large (omega (arith, leb-true x _ t)))
+    go false t = rw (le-ltb x too_large (omega (arith, leb-false x _ t)))
 
 -- the number of a text that is the line from a position on, by its digits, of which there are n
 module _ (line : List ℕ) (at : ℕ) (bs : List ℕ) (text : bs ≡ drop at line) (n : ℕ) (counted : n ≡ length (digits bs)) where
@@ -119,54 +138,45 @@ module _ (line : List ℕ) (at : ℕ) (bs : List ℕ) (text : bs ≡ drop at lin
   unfolding number_at
   by_text = ap (λ us. number_of at (digits us)) text
 
-  pub within : (n ≡ 0 → ⊥) → at + n ≤ length line
-  within x = omega (arith, counted, digits_within bs, ap length text, length-drop at line, x)
+  pub all_there : n ≡ length (take n bs)
+  all_there = sym (length-take-le n bs (omega (arith, counted, digits_within bs)))
 
-  pub all_there : length (take n bs) ≡ n
-  all_there = length-take-le n bs (omega (arith, counted, digits_within bs))
+  all_digits : all_ascii_digits (take n bs) ≡ true
+  all_digits = ap (λ j. all_ascii_digits (take j bs)) counted ∙ leading_digits bs
 
-  pub read_none : n ≡ 0 → None ≡ number_at line at
-  read_none e = no_digits (digits bs) at (omega (arith, counted, e)) ∙ by_text
+  value : value_on 0 (take n bs) ≡ value_after 0 (digits bs)
+  value = ap (λ j. value_on 0 (take j bs)) counted ∙ same_value bs 0
 
-  module _ (k v : ℕ) (from_line : Going (digits (drop at line)) k v) where
-    g : Going (digits bs) k v
-    g = subst (λ us. Going (digits us) k v) (sym text) from_line
+  pub digits_are_text : IsUtf8 (take n bs)
+  digits_are_text = IsUtf8-from_ascii (take n bs) (ascii (take n bs) all_digits)
 
-    pub read_some : length (take n bs) ≤ k → (n ≡ 0 → ⊥) → Some (v, at + n) ≡ number_at line at
-    unfolding value_after
-    read_some h x =
-        let whole : value_after 0 (digits bs) ≡ v = g.value ∙ ap (value_after v) (drop_of_length-le (digits bs) (omega (arith, h, all_there, counted))) in
-        ap (λ j. Some (v, at + j)) counted ∙ some_digits (digits bs) at v whole g.small (λ e. x (omega (arith, counted, e))) ∙ by_text
+  -- and what the library read
+  module _ {E : Type 0} (r : Result ℕ E) (p : ParsesUnsigned 64 10 (take n bs) r) where
+    parsed : OkIff r ((0 < length (take n bs)) × (value_on 0 (take n bs) < 2 ^ 64)) (value_on 0 (take n bs))
+    parsed = parse_digits digits_model 64 (take n bs) r p all_digits
 
-    module _ (h : k < length (take n bs)) where
-      another : k < length (digits bs)
-      another = omega (arith, h, all_there, counted)
+    pub read_none : result_ok r ≡ None → None ≡ number_at line at
+    read_none e = no_number (digits bs) at (λ h. go r _ _ parsed e (omega (arith, counted, all_there, h.0), subst (λ (x : ℕ). x < 2 ^ 64) (sym value) h.1)) ∙ by_text
+      where
+        go : (r : Result ℕ E) (P : Type 0) (v : ℕ) → OkIff r P v → result_ok r ≡ None → P → ⊥
+        go (Ok x) P v k e = cc
+        go (Err x) P v k e = k
 
-      item : get_or (take n bs) k 0 ≡ get_or bs k 0
-      item = get_or-take n bs k 0 (omega (arith, h, all_there))
+    module _ (v : ℕ) (e : result_ok r ≡ Some v) where
+      read : (0 < length (take n bs)) × (v ≡ value_on 0 (take n bs))
+      read = go r _ _ _ parsed e
+        where
+          go : (r : Result ℕ E) (P Q : Type 0) (u : ℕ) → OkIff r (P × Q) u → result_ok r ≡ Some v → P × (v ≡ u)
+          go (Ok x) P Q u k e = (k.0.0, cc)
+          go (Err x) P Q u k e = absurd cc
 
-      pub least : 48 ≤ get_or (take n bs) k 0
-      least = omega (arith, item, (digit_at bs k another).least)
+      pub within : at + n ≤ length line
+      within = omega (arith, counted, digits_within bs, ap length text, length-drop at line, all_there, read.0)
 
-      pub read_more : v ≤ 999999999999999999 → (x : ℕ) → x ≡ get_or (take n bs) k 0 - 48 → Going (digits (drop at line)) (k + 1) (v * 10 + x)
-      read_more few x e =
-          subst (λ us. Going (digits us) (k + 1) (v * 10 + x)) text
-          (subst (λ (y : ℕ). Going (digits bs) (k + 1) (v * 10 + y)) (sym (e ∙ ap (λ (y : ℕ). y - 48) item))
-          (going_more bs k v g another few))
-
-      pub read_large : 999999999999999999 < v → None ≡ number_at line at
-      unfolding value_after
-      read_large big =
-          let x = get_or (digits bs) k 0 in
-          large (digits bs) at
-          (omega (
-            arith,
-            g.value,
-            ap (value_after v) (drop-cons (digits bs) k 0 another),
-            grows (drop (suc k) (digits bs)) (v * 10 + x),
-            big,
-          ))
-          ∙ by_text
+      pub read_some : then_some {T = ℕ × ℕ} (leb v 9999999999999999999) (v, at + n) ≡ number_at line at
+      read_some =
+          ap (λ j. then_some {T = ℕ × ℕ} (leb v 9999999999999999999) (v, at + j)) counted
+          ∙ a_number (digits bs) at v (omega (arith, counted, all_there, read.0)) (read.1 ∙ value) ∙ by_text
 
 pub fields_ended : (m : ℕ) (line : List ℕ) (at : ℕ) (values : List ℕ) (k : ℕ) → length line ≤ at → all_read values k ≡ fields_from m line at values k
 unfolding fields_from

@@ -25,8 +25,8 @@ pub const HELD_LINE: usize = 257;
 // The input is read in parts of at most so many bytes.
 const BUFFER_BYTES: usize = 4096;
 
-// Past this a number has one digit too many to take another.
-const MOST_VALUE: u64 = 999999999999999999;
+// The largest number that is read: 19 digits 9.
+const MOST_VALUE: u64 = 9999999999999999999;
 
 // The numbers of a line.
 // kept: an array with a count, since there is no heap; what reads them reads the slice that `numbers` answers.
@@ -67,24 +67,13 @@ fn digit_count(text: &[u8]) -> usize
 }
 
 // The number at a position of a line, by its decimal digits, of which it has at least one, and the position past them.
-// kept: digit by digit, since `parse` reads numbers up to 2^64 - 1, and those of recorded lines are below 10^19.
 fn number_at(line: &[u8], at: usize) -> Option<(u64, usize)>
     ensures { result ≡ number_at line.now at }
 {
     let text = rest(line, at);
     let count = digit_count(text);
-    let mut value: u64 = 0;
-    for digit in &text[..count] {
-        if MOST_VALUE < value {
-            return None;
-        }
-        value = value * 10 + u64::from(*digit - b'0');
-    }
-    if count == 0 {
-        None
-    } else {
-        Some((value, at + count))
-    }
+    let value = str::from_utf8(&text[..count]).ok()?.parse::<u64>().ok()?;
+    (value <= MOST_VALUE).then_some((value, at + count))
 }
 
 // The numbers of a line after its letter: at most 18, each after one space; none where it is not a letter and numbers.
