@@ -15,7 +15,7 @@ use Rattle.list_tokens.specs.declared.Keyword.{Keyword}
 use Rattle.list_tokens.specs.declared.Token.{Token}
 use Rattle.list_forms.specs.declared.Item.{Item}
 use Rattle.list_forms.specs.declared.Item.TheVariants.{Number, Sort, Node, Var, Expr, FixedSort, Place, Container, Literal, AnyWord}
-use Rattle.list_forms.specs.declared.Target.{Target}
+use Rattle.inference.specs.declared.NameKind.{NameKind}
 use Rattle.problem_words.specs.declared.ConstraintKind.{ConstraintKind}
 use Rattle.list_forms.specs.declared.Plan.{Plan}
 use Rattle.list_forms.specs.Items.{table_named, slice_named, token_at, keyword_word, word_at, fits_form, list_fits, function_fits}
@@ -130,10 +130,10 @@ expr_plan ws t =
     (expected Form.Next)
 
 -- the kinds of names and overloads, and of constraints, in their rows
-abbrev pub target_number : Target → ℕ
-target_number Target.Variable = 1
-target_number Target.Op = 2
-target_number Target.Builtin = 3
+abbrev pub target_number : NameKind → ℕ
+target_number NameKind.Variable = 1
+target_number NameKind.Op = 2
+target_number NameKind.Builtin = 3
 
 abbrev pub constraint_number : ConstraintKind → ℕ
 constraint_number ConstraintKind.Sub = 0
@@ -146,11 +146,11 @@ constraint_number ConstraintKind.Join = 4
 abbrev pub name_row : List Token → Result Plan Form
 name_row t =
     cond (fits_form t (word Keyword.Name ∷ Expr ∷ word Keyword.Variable ∷ []))
-    (Ok (row_plan Table.Names (five_words (word_at t 1) (target_number Target.Variable) 0 0 0)))
+    (Ok (row_plan Table.Names (five_words (word_at t 1) (target_number NameKind.Variable) 0 0 0)))
     (cond (fits_form t (word Keyword.Name ∷ Expr ∷ word Keyword.Builtin ∷ []))
-    (Ok (row_plan Table.Names (five_words (word_at t 1) (target_number Target.Builtin) 0 0 0)))
+    (Ok (row_plan Table.Names (five_words (word_at t 1) (target_number NameKind.Builtin) 0 0 0)))
     (cond (fits_form t (word Keyword.Name ∷ Expr ∷ word Keyword.Op ∷ Sort ∷ []))
-    (Ok (row_plan Table.Names (five_words (word_at t 1) (target_number Target.Op) (word_at t 3) 0 0)))
+    (Ok (row_plan Table.Names (five_words (word_at t 1) (target_number NameKind.Op) (word_at t 3) 0 0)))
     (cond (fits_form t (word Keyword.Name ∷ Expr ∷ word Keyword.Raw ∷ Number ∷ Number ∷ []))
     (Ok (row_plan Table.Names (five_words (word_at t 1) (word_at t 3) (word_at t 4) 0 0)))
     (expected Form.Name))))
@@ -211,11 +211,11 @@ overload_row ws r = with_put (row_plan Table.Overloads r) (grown ws LastConstrai
 unfoldable pub overload_plan : List ℕ → List Token → Result Plan Form
 overload_plan ws t =
     cond (fits_form t (word Keyword.Overload ∷ word Keyword.Variable ∷ Place ∷ []))
-    (Ok (overload_row ws (five_words (target_number Target.Variable) 0 (word_at t 2) 0 0)))
+    (Ok (overload_row ws (five_words (target_number NameKind.Variable) 0 (word_at t 2) 0 0)))
     (cond (fits_form t (word Keyword.Overload ∷ word Keyword.Builtin ∷ Place ∷ []))
-    (Ok (overload_row ws (five_words (target_number Target.Builtin) 0 (word_at t 2) 0 0)))
+    (Ok (overload_row ws (five_words (target_number NameKind.Builtin) 0 (word_at t 2) 0 0)))
     (cond (fits_form t (word Keyword.Overload ∷ word Keyword.Op ∷ Sort ∷ Place ∷ []))
-    (Ok (overload_row ws (five_words (target_number Target.Op) (word_at t 2) (word_at t 3) 0 0)))
+    (Ok (overload_row ws (five_words (target_number NameKind.Op) (word_at t 2) (word_at t 3) 0 0)))
     (cond (fits_form t (word Keyword.Overload ∷ word Keyword.Raw ∷ Number ∷ Number ∷ Number ∷ []))
     (Ok (overload_row ws (five_words (word_at t 2) (word_at t 3) (word_at t 4) 0 0)))
     (expected Form.Overload))))

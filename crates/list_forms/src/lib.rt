@@ -2,9 +2,8 @@
 // instead. Nothing is stored here.
 #![tactic(auto)]
 
-ghost use Rattle.std.specs.Prelude.{get_or, ◌≡◌, ◌≤◌, [], ◌∷◌, length, true, false, IfSome, MatchResult};
+ghost use Rattle.std.specs.Prelude.{◌≡◌, ◌≤◌, [], ◌∷◌, length, true, false, IfSome, MatchResult};
 ghost use Rattle.list_memory.specs.Memory.{rows_given, memory_words};
-ghost use Rattle.list_memory.specs.Layouts.{table_number};
 ghost use Rattle.list_tokens.specs.declared.Keyword.{Keyword};
 ghost use Rattle.list_memory.specs.declared.Form.{Form};
 ghost use Rattle.list_forms.specs.declared.Item.{Item};
@@ -23,12 +22,12 @@ ghost use Rattle.list_forms.specs.Lines.{plan_of, asks_other};
 use inference::{LitKind, MAX_CONSTRAINTS, NameKind};
 use list_memory::{
     COUNTS_AT, COUNTS_TOLD_AT, DEFAULT_AT, Form, LAST_AT, LENT_AT, LENT_TOLD_AT, LIST_BINDS_AT,
-    LIST_CONSTRAINTS_AT, LIST_WORDS, LastConstraint, MAX_NAMES, Slice, Table, rows_given,
+    LIST_CONSTRAINTS_AT, LastConstraint, MAX_NAMES, Slice, Table, rows_given,
 };
 use list_tokens::{Keyword, Token};
 use problem_words::ConstraintKind;
-use resolved_sort::{ComplexSort, DEF_KIND, FUNCTION_KIND, LAST_KIND, SORT_NUMBERS};
-use unification::{FIRST_NODE, FREE_WORD, InferSortId, MAX_VARS, SortVar, VARIABLE_KIND};
+use resolved_sort::{ComplexSort, DEF_KIND, FUNCTION_KIND, LAST_KIND, SORT_NUMBERS, Sort};
+use unification::{FIRST_NODE, InferSortId, MAX_VARS, SortVar, VARIABLE_KIND, binding_of};
 use words::word;
 
 // So many rows of a table: the first of them, and by how much the second word grows from row to row.
@@ -69,7 +68,7 @@ pub struct Plan {
 // A line of a list: the list so far, and the words of the line.
 #[derive(Clone, Copy)]
 pub struct Line<'a> {
-    pub list: &'a [u16; LIST_WORDS],
+    pub list: &'a [u16],
     pub words: &'a [Token],
 }
 
@@ -188,16 +187,16 @@ pub fn token_at(t: &[Token], i: usize) -> Token
 }
 
 // What a word of the format stands for in memory: a fixed sort's number, the kind of a container or of a literal.
-#[tactic(auto, unfolding(resolved_sort::specs::Storage::kind_op))]
+#[tactic(auto, unfolding(resolved_sort::specs::Storage::kind_op, resolved_sort::specs::Storage::kind_flat))]
 fn keyword_word(keyword: Keyword) -> u16
     ensures { result ≡ keyword_word keyword }
 {
     match keyword {
-        Keyword::Bool => 1,
-        Keyword::Pos => 2,
-        Keyword::Nat => 3,
-        Keyword::Int => 4,
-        Keyword::Real => 5,
+        Keyword::Bool => Sort::Bool.into(),
+        Keyword::Pos => Sort::Pos.into(),
+        Keyword::Nat => Sort::Nat.into(),
+        Keyword::Int => Sort::Int.into(),
+        Keyword::Real => Sort::Real.into(),
         Keyword::ListOf => ComplexSort::List.into(),
         Keyword::SetOf => ComplexSort::Set.into(),
         Keyword::FSetOf => ComplexSort::FSet.into(),
@@ -369,21 +368,13 @@ impl<'a> Line<'a> {
         }
     }
 
-    // The word at i of the list.
-    fn list_word(&self, i: usize) -> u16
-        ensures { result ≡ get_or self.now.list.now i 0 }
-    {
-        let list = self.list;
-        word(list, i)
-    }
-
     // Word i of the last constraint's row grows by n, where its line is of a kind and the row is kept.
     #[tactic(auto, unfolding(crate::specs::Plans::grown))]
     fn grown(&self, last: LastConstraint, i: usize, n: u16) -> Option<Put>
         requires { i ≤ 4 }
         ensures { result ≡ grown self.now.list.now last i n }
     {
-        if self.list_word(LAST_AT) != u16::from(last) {
+        if word(self.list, LAST_AT) != u16::from(last) {
             return None;
         }
         let rows = rows_given(self.list, Table::Constraints) as usize;
@@ -391,7 +382,7 @@ impl<'a> Line<'a> {
             return None;
         }
         let at = BEFORE_CONSTRAINTS + 5 * rows + i;
-        let value = self.list_word(at).saturating_add(n);
+        let value = word(self.list, at).saturating_add(n);
         Some(Put { at, value })
     }
 
@@ -549,7 +540,7 @@ impl<'a> Line<'a> {
             return Ok(NOTHING);
         }
         let at = LIST_BINDS_AT + (var.0 as usize);
-        if self.list_word(at) != FREE_WORD {
+        if binding_of(word(self.list, at)).is_some() {
             return Err(Form::Unbound);
         }
         Ok(put_plan(at, place.0))

@@ -5,14 +5,12 @@ use mathlib.Core.List.{List, [], ◌∷◌}
 use Prim.Native.Nat.{ℕ, zero, suc, ◌+◌, ◌*◌, ◌-◌, ◌^◌, ◌<◌, ◌≤◌}
 use Rattle.std.specs.Prelude.{min}
 use native.Mathlib.Nat.{mul-le-mul}
-use native.Mathlib.Numerals.{add-one}
 use native.Mathlib.Omega.{arith}
 use lib.Dec.{ltb}
 use lib.ListN.{get_or, set}
 use borrow.Author.Tests.{ltb-true, ltb-false}
-use Rattle.resolved_sort.specs.Storage.{row_words}
 use Rattle.list_memory.specs.declared.Table.{Table}
-use Rattle.list_memory.specs.Memory.{list_sorts_at, memory_words}
+use Rattle.list_memory.specs.Memory.{memory_words}
 use Rattle.list_memory.specs.Layouts.{layout_of, list_row_at}
 use Rattle.list_tokens.specs.declared.Token.{Token}
 use Rattle.list_forms.specs.Items.{word_at}
@@ -122,4 +120,3 @@ module _ (start : List ℕ) (k : Table) (t : List Token) (from to : ℕ) (ws : L
 
   pub running_all : to ≤ i → ws ≡ append_run (to - from) start k t from
   running_all h = sym (g.same ∙ ap (λ (m : ℕ). append_run m ws k t i) (omega arith) ∙ none_of_run ws k t i)
-
