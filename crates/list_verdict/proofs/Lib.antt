@@ -2,4 +2,5 @@
 pub mod Pieces
 pub mod Ways
 pub mod Rows
+pub mod Targets
 pub mod Longest

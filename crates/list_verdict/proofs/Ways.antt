@@ -1,15 +1,14 @@
 -- What a code says, a sort by its number, and the text of a sort by its size. Assumes nothing.
 use mathlib.Core.Path.{◌≡◌, refl, sym, ◌∙◌, ap}
-use mathlib.Core.Bool.{Bool, true, false, ◌&&◌, and-eq-true_iff}
-use mathlib.Core.List.{List, [], ◌∷◌, ◌++◌}
-use Prim.Native.Nat.{ℕ, zero, suc, ◌+◌, ◌-◌, ◌<◌, ◌≤◌}
+use mathlib.Core.Bool.{Bool, true, false, ◌&&◌}
+use mathlib.Core.List.{List, []}
+use Prim.Native.Nat.{ℕ, zero, suc, ◌<◌, ◌≤◌}
 use native.Mathlib.Omega.{arith}
 use native.Mathlib.Decide.{dec_le}
 use lib.Dec.{leb, ltb}
 use Rattle.std.proofs.lemmas.List.{get_or-set_other}
-use lib.ListN.{length, get_or, set, take, replicate, length-replicate, get_or-eq_default}
-use lib.Seq.{length-sets, length-take-le, sets-eq, take_at}
-use borrow.Author.Tests.{lt-ltb, le-ltb, le-leb, lt-leb, leb-true}
+use lib.ListN.{length, get_or, replicate, length-replicate, get_or-eq_default}
+use borrow.Author.Tests.{le-ltb, lt-leb}
 use Rattle.resolved_sort.specs.declared.Counts.{Counts}
 use Rattle.resolved_sort.specs.Tree.{Tree, flat, unit}
 use Rattle.resolved_sort.specs.Interning.{look}
@@ -19,7 +18,6 @@ use Rattle.resolved_sort.proofs.Reached.{no_confusion}
 use Rattle.resolved_sort.proofs.Trees.{length_trees}
 use Rattle.sort_text.specs.Text.{writable, text}
 use Rattle.sort_writer.specs.Inner.Sizes.{most_size, size_if, sized, sizes_to, row_size}
-use Rattle.text_out.specs.Put.{Put}
 use Rattle.sort_writer.proofs.Sizes.{capped_short, capped_long, text_some}
 use Rattle.sort_writer.proofs.Fills.{sizes_right}
 use Rattle.list_verdict.specs.Words.{verdict_messages, message}

@@ -10,8 +10,8 @@ ghost use Rattle.text_out.specs.Quoted.{byte_of};
 ghost use Rattle.text_out.specs.Outs.{then_put};
 ghost use Rattle.list_verdict.specs.Words.{message};
 ghost use Rattle.list_verdict.specs.Text.{name, sort_name, short, sort_text, target_text, expr_line, separator};
-ghost use Rattle.list_verdict.specs.Text.{component, choice_text, measure_line, choices_line, verdict_line, new_line, new_lines, typing_text};
-ghost use Rattle.list_verdict.specs.Text.{rows_text, argument_text};
+ghost use Rattle.list_verdict.specs.Text.{component, choice_text, measure_line, choices_line, verdict_line};
+ghost use Rattle.list_verdict.specs.Text.{new_line, new_lines, typing_text, rows_text, argument_text};
 ghost use Rattle.list_verdict.specs.Inner.Room.{SizesOf};
 ghost use Rattle.list_verdict.specs.Inner.Row.{row_text};
 
@@ -120,6 +120,7 @@ fn put_expr_name(expr: ExprId, out: &mut Out<'_>)
 }
 
 // A sort as the text format names it: one of the fixed six by its word.
+// kept: by number, since a list is not looked at: whatever its rows are, these numbers have these names.
 #[tactic(auto, using(crate::proofs::Ways::plain_name), unfolding(crate::specs::Text::sort_name, crate::specs::Words::kind_word))]
 fn put_sort_name(id: SortId, out: &mut Out<'_>)
     ensures { out.new ≡ then_put out.old (sort_name id.0) }
@@ -179,7 +180,6 @@ fn put_choice(typing: &Typing<'_>, i: u16, out: &mut Out<'_>)
 }
 
 // The line of the choices, in the order handed out.
-#[tactic(auto, using(text_out::proofs::Outs::put_parts), unfolding(crate::specs::Text::choices_line, crate::specs::Text::choice_list, crate::specs::Text::rows_text))]
 fn put_choices(typing: &Typing<'_>, out: &mut Out<'_>)
     ensures { out.new ≡ then_put out.old (choices_line typing.now.choices.now typing.now.chosen) }
 {
