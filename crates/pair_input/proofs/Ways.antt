@@ -133,7 +133,6 @@ pub record Feeding (memory : List ℕ) (held : Held) (bytes out : List ℕ) (mem
   pub within : used ≤ length bytes
   pub fits : at ≤ length out
   pub goes : (k : ℕ) → k < used → length (take_bytes (lines_of memory held) (take k bytes)).output + line_room ≤ length out
-  pub memory_long : length memory' ≡ length memory
   pub out_long : length out' ≡ length out
 
 -- the same, as the buffer is put by the one that started with it
@@ -150,7 +149,6 @@ nothing_fed memory held bytes out q =
       fits = omega
           arith;
       goes = λ k l. absurd (omega (arith, l));
-      memory_long = refl;
       out_long = refl;
     }
 
@@ -192,10 +190,10 @@ module _ (memory : List ℕ) (held : Held) (bytes out memory₁ : List ℕ) (hel
         subst (λ (x : ℕ). length (take_bytes (lines_of memory held) (take x bytes)).output + line_room ≤ length out)
         (sym i) (omega (arith, f.turns.put.behind, h, f.out_long))
 
-    pub byte_fed : line_room ≤ length out₁ - at → (memory₂ : List ℕ) (held₂ : Held) (out₂ : List ℕ) (next : ℕ) → length memory₂ ≡ length memory₁
+    pub byte_fed : line_room ≤ length out₁ - at → (memory₂ : List ℕ) (held₂ : Held) (out₂ : List ℕ) (next : ℕ)
         → Turns (take_byte (lines_of memory₁ held₁) (get_or bytes used 0)) (byte_in_memory memory₁ held₁ (get_or bytes used 0)) out₁ at memory₂ held₂ out₂ next
         → Feeding memory held bytes out memory₂ held₂ out₂ (used + 1) next
-    byte_fed h memory₂ held₂ out₂ next k g =
+    byte_fed h memory₂ held₂ out₂ next g =
         let g' = subst (λ x. Turns (take_byte x (get_or bytes used 0)) (byte_in_memory memory₁ held₁ (get_or bytes used 0)) out₁ at memory₂ held₂ out₂ next) f.turns.lines g in
         record {
           turns = subst (λ x. Turns x (bytes_in_memory memory held (take (used + 1) bytes)) out 0 memory₂ held₂ out₂ next) (sym next_byte)
@@ -203,7 +201,6 @@ module _ (memory : List ℕ) (held : Held) (bytes out memory₁ : List ℕ) (hel
           within = omega (arith, u);
           fits = omega (arith, h, f.out_long, g'.put.behind, byte_output t₁.lines (get_or bytes used 0), put_length g'.put);
           goes = λ j l. goes_on h j (ltb j used) refl l;
-          memory_long = k ∙ f.memory_long;
           out_long = put_length g'.put ∙ f.out_long;
         }
 
@@ -233,15 +230,15 @@ module _ (memory : List ℕ) (held : Held) (bytes : List ℕ) (o : Out) where
     fed_to u h g = subst (λ us. Feeds memory held bytes o.bytes.now memory₁ held₁ us u p.at) (sym (h (sym (ap (λ m. m.bytes.ghost_name) f.is)))) g
 
     module _ (u : used < length bytes) (h : line_room ≤ length o.bytes.now - p.at) where
-      pub byte_fed_to : (memory₂ : List ℕ) (held₂ : Held) (q : Out) → length memory₂ ≡ length memory₁
+      pub byte_fed_to : (memory₂ : List ℕ) (held₂ : Held) (q : Out)
           → TurnKept (take_byte (lines_of memory₁ held₁) (get_or bytes used 0)) (byte_in_memory memory₁ held₁ (get_or bytes used 0)) memory₂ held₂
           → q ≡ then_put p (take_byte (lines_of memory₁ held₁) (get_or bytes used 0)).output
           → FeedingTo memory held bytes o memory₂ held₂ q (used + 1)
-      byte_fed_to memory₂ held₂ q k g e =
+      byte_fed_to memory₂ held₂ q g e =
           let room : line_room ≤ length p.bytes.now - p.at = omega (arith, h, f.feeding.out_long) in
           let fits = byte_output (lines_of memory₁ held₁) (get_or bytes used 0) in
           record {
-            feeding = byte_fed memory held bytes o.bytes.now memory₁ held₁ p.bytes.now used p.at f.feeding u room memory₂ held₂ q.bytes.now q.at k
+            feeding = byte_fed memory held bytes o.bytes.now memory₁ held₁ p.bytes.now used p.at f.feeding u room memory₂ held₂ q.bytes.now q.at
                 (record { holds = g.holds; is_stored = g.is_stored; lines = g.lines; put = left_whole p q (omega (arith, room, fits)) e (λ z. refl) });
             is = e ∙ (ap₂ (λ x h. then_put x (take_byte h (get_or bytes used 0)).output) f.is f.feeding.turns.lines
                 ∙ (sym (then_put_both o _ _)
@@ -301,6 +298,10 @@ feeds_some memory held bytes out memory₁ held₁ out₁ (suc used) at f b l = 
 pub none_held : (memory : List ℕ) → most_held + most_held ≤ length memory → Holds memory (First 0)
 unfolding Fits
 none_held memory l = record { fits = omega arith; long = l }
+
+pub nothing_held : (memory : List ℕ) → lines_of memory (First 0) ≡ first []
+unfolding lines_of
+nothing_held memory = refl
 
 -- the end of the input prints no more than the longest line
 pub end_output : (h : Lines) → length (at_end h) ≤ line_room

@@ -1,5 +1,7 @@
 -- The lines held in a memory of 402 bytes, one behind the other, and what the functions that take bytes leave.
 use Rattle.std.specs.Prelude.{◌≡◌, cond, List, [], ◌∷◌, ℕ, ◌+◌, ◌<◌, ◌≤◌, length, take, eqb}
+use mathlib.Core.Path.{ap₂}
+use Rattle.std.specs.Coded.{×_prop, le_prop}
 use Rattle.text_out.specs.Quoted.{byte_of}
 use Rattle.text_out.specs.Put.{Put}
 use Rattle.held_line.specs.Holding.{line_at, LineKept, held_at}
@@ -20,6 +22,15 @@ Fits (Second n m) = (n ≤ most_held) × (m ≤ most_held)
 pub record Holds (memory : List ℕ) (held : Held) : Type 0 where
   pub fits : Fits held
   pub long : most_held + most_held ≤ length memory
+
+-- there is one proof of it at most
+Fits-prop : (held : Held) → IsProp (Fits held)
+unfolding Fits
+Fits-prop (First n) = le_prop
+Fits-prop (Second n m) = ×_prop le_prop le_prop
+
+pub holds_prop : (memory : List ℕ) (held : Held) → IsProp (Holds memory held)
+holds_prop memory held p q = ap₂ (λ f l. record { fits = f; long = l }) (Fits-prop held p.fits q.fits) (le_prop p.long q.long)
 
 -- the memory, and how many bytes are held in it
 pub record InMemory : Type 0 where

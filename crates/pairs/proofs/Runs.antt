@@ -1,19 +1,18 @@
 -- What the reads and writes of the pair program come to: parts of the input one after another, and its end. Assumes nothing.
 use mathlib.Core.Path.{◌≡◌, refl, sym, ◌∙◌, ap, subst}
-use mathlib.Core.Bool.{Bool, true, false, not}
+use mathlib.Core.Bool.{true, false}
 use mathlib.Core.List.{List, [], ◌++◌, append_assoc, append-nil}
 use Prim.Native.Nat.{ℕ, ◌+◌, ◌-◌, ◌<◌, ◌≤◌}
 use native.Mathlib.Omega.{arith}
 use lib.ListN.{length, take, drop, length-take, length-drop}
 use lib.Seq.{sets-eq, take-append_seam}
-use Rattle.std.specs.Prelude.{Option, Some, None, Result, Ok, Err, ⊤}
-use Rattle.std.specs.Io.KnownBytes.{Consumes, Appends, IsAtEnd}
+use Rattle.std.specs.Prelude.{Option, Some, None, Ok}
+use Rattle.std.specs.Io.KnownBytes.{Consumes, Appends}
 use Rattle.text_out.specs.Put.{Put}
 use Rattle.text_out.proofs.Put.{put_length}
 use Rattle.pair_input.specs.declared.Held.{Held}
-use Rattle.pair_input.specs.declared.Held.TheVariants.{First}
 use Rattle.pair_input.specs.ByteByByte.{Lines, first, Turned, take_bytes, at_end}
-use Rattle.pair_input.specs.Held.{lines_of, Holds, Feeds}
+use Rattle.pair_input.specs.Held.{lines_of, Feeds}
 use Rattle.pair_input.proofs.Exactly.{in_parts, byte_by_byte_exactly}
 use Rattle.pair_line.specs.Room.{line_room}
 use Rattle.pair_input.proofs.Ways.{feeds_some, fed_further, fed_output, all_taken, all_printed, none_taken, none_printed}
@@ -47,31 +46,25 @@ front_of out bs left r h l =
     ap (take r) (h.bytes ∙ sets-eq bs out 0 (omega (arith, n, l, put_length h)))
     ∙ (ap (λ (k : ℕ). take k (bs ++ drop (0 + length bs) out)) n ∙ take-append_seam bs (drop (0 + length bs) out))
 
--- taking bytes: what is taken so far is held, and what it prints is written
-pub record Taking (memory₀ : List ℕ) (held₀ : Held) (bytes out₀ : List ℕ) (shown₀ : Option (List ℕ)) (memory : List ℕ) (held : Held)
-    (out : List ℕ) (shown : Option (List ℕ)) (from : ℕ) : Type 0 where
-  pub holds : Holds memory held
+-- taking bytes: what is taken so far is held, what it prints is written, and the buffer has room for a line
+pub record Taking (h₀ : Lines) (bytes : List ℕ) (shown₀ : Option (List ℕ)) (h : Lines) (out : List ℕ) (shown : Option (List ℕ)) (from : ℕ)
+    : Type 0 where
   pub within : from ≤ length bytes
-  pub out_long : length out ≡ length out₀
-  pub memory_long : length memory ≡ length memory₀
-  pub lines : lines_of memory held ≡ (take_bytes (lines_of memory₀ held₀) (take from bytes)).lines
-  pub written : Appends shown₀ shown (take_bytes (lines_of memory₀ held₀) (take from bytes)).output
+  pub room : line_room ≤ length out
+  pub lines : h ≡ (take_bytes h₀ (take from bytes)).lines
+  pub written : Appends shown₀ shown (take_bytes h₀ (take from bytes)).output
 
-pub none_taken_yet : (memory : List ℕ) (held : Held) (bytes out : List ℕ) (shown : Option (List ℕ)) → Holds memory held
-    → Taking memory held bytes out shown memory held out shown 0
-none_taken_yet memory held bytes out shown h =
+pub none_taken_yet : (h : Lines) (bytes out : List ℕ) (shown : Option (List ℕ)) → line_room ≤ length out → Taking h bytes shown h out shown 0
+none_taken_yet h bytes out shown l =
     record {
-      holds = h;
       within = omega arith;
-      out_long = refl;
-      memory_long = refl;
-      lines = none_taken (lines_of memory held) bytes;
-      written = subst (Appends shown shown) (none_printed (lines_of memory held) bytes) (nothing_shown shown);
+      room = l;
+      lines = none_taken h bytes;
+      written = subst (Appends shown shown) (none_printed h bytes) (nothing_shown shown);
     }
 
-module _ (memory₀ : List ℕ) (held₀ : Held) (bytes out₀ : List ℕ) (shown₀ : Option (List ℕ)) (memory : List ℕ) (held : Held)
-    (out : List ℕ) (shown : Option (List ℕ)) (from : ℕ)
-    (t : Taking memory₀ held₀ bytes out₀ shown₀ memory held out shown from) where
+module _ (h₀ : Lines) (bytes : List ℕ) (shown₀ : Option (List ℕ)) (memory : List ℕ) (held : Held) (out : List ℕ) (shown : Option (List ℕ)) (from : ℕ)
+    (t : Taking h₀ bytes shown₀ (lines_of memory held) out shown from) where
   abbrev pub rest : List ℕ
   rest = take (length bytes - from) (drop from bytes)
 
@@ -83,33 +76,36 @@ module _ (memory₀ : List ℕ) (held₀ : Held) (bytes out₀ : List ℕ) (show
     pub fed_within : from + used ≤ length bytes
     fed_within = omega (arith, f.within, rest_long, inside)
 
-    -- each turn takes at least one byte
-    pub less_left : line_room ≤ length out → length bytes - (from + used) < length bytes - from
-    less_left l =
-        omega (arith, inside, fed_within, feeds_some memory held rest out memory' held' out' used at f (omega (arith, rest_long, inside)) l)
+    pub same_room : length out' ≡ length out
+    same_room = put_length f.turns.put
 
-    pub part_taken : (shown' : Option (List ℕ)) → length memory' ≡ length memory → length out' ≡ length out
-        → Appends shown shown' (take at out') → Taking memory₀ held₀ bytes out₀ shown₀ memory' held' out' shown' (from + used)
-    part_taken shown' m o w =
+    pub put_within : at ≤ length out'
+    put_within = omega (arith, f.fits, same_room)
+
+    -- each turn takes at least one byte
+    pub less_left : length bytes - (from + used) < length bytes - from
+    less_left =
+        omega (arith, inside, fed_within, feeds_some memory held rest out memory' held' out' used at f (omega (arith, rest_long, inside)) t.room)
+
+    pub part_taken : (h' : Lines) → h' ≡ lines_of memory' held' → (out'' : List ℕ) → length out'' ≡ length out' → (shown' : Option (List ℕ))
+        → Appends shown shown' (take at out') → Taking h₀ bytes shown₀ h' out'' shown' (from + used)
+    part_taken h' e out'' o shown' w =
         record {
-          holds = f.turns.holds;
           within = fed_within;
-          out_long = o ∙ t.out_long;
-          memory_long = m ∙ t.memory_long;
-          lines = f.turns.lines ∙ (ap (λ h. (take_bytes h (take used rest)).lines) t.lines
-              ∙ fed_further (lines_of memory₀ held₀) bytes from used fed_within);
+          room = omega (arith, o, same_room, t.room);
+          lines = e ∙ (f.turns.lines ∙ (ap (λ h. (take_bytes h (take used rest)).lines) t.lines ∙ fed_further h₀ bytes from used fed_within));
           written = subst (Appends shown₀ shown')
-              (sym (fed_output (lines_of memory₀ held₀) bytes from used fed_within
-              ∙ ap (λ h. (take_bytes (lines_of memory₀ held₀) (take from bytes)).output ++ (take_bytes h (take used rest)).output) (sym t.lines)))
+              (sym (fed_output h₀ bytes from used fed_within
+              ∙ ap (λ h. (take_bytes h₀ (take from bytes)).output ++ (take_bytes h (take used rest)).output) (sym t.lines)))
               (shown_more shown₀ shown shown' _ _ t.written
-              (subst (Appends shown shown') (front_of out (take_bytes (lines_of memory held) (take used rest)).output out' at f.turns.put (omega (arith, f.fits, put_length f.turns.put))) w));
+              (subst (Appends shown shown') (front_of out (take_bytes (lines_of memory held) (take used rest)).output out' at f.turns.put put_within) w));
         }
 
-  pub all_lines : length bytes ≤ from → lines_of memory held ≡ (take_bytes (lines_of memory₀ held₀) bytes).lines
-  all_lines l = t.lines ∙ all_taken (lines_of memory₀ held₀) bytes from l
+  pub all_lines : length bytes ≤ from → lines_of memory held ≡ (take_bytes h₀ bytes).lines
+  all_lines l = t.lines ∙ all_taken h₀ bytes from l
 
-  pub all_written : length bytes ≤ from → Appends shown₀ shown (take_bytes (lines_of memory₀ held₀) bytes).output
-  all_written l = subst (Appends shown₀ shown) (all_printed (lines_of memory₀ held₀) bytes from l) t.written
+  pub all_written : length bytes ≤ from → Appends shown₀ shown (take_bytes h₀ bytes).output
+  all_written l = subst (Appends shown₀ shown) (all_printed h₀ bytes from l) t.written
 
 -- The program so far: the part that was read.
 abbrev pub Run : (known₀ known shown₀ shown : Option (List ℕ)) → Lines → Type 0
@@ -119,24 +115,21 @@ pub run_starts : (known shown : Option (List ℕ)) (h : Lines) → h ≡ first [
 unfolding take_bytes
 run_starts known shown h e = record { part = []; read = nothing_read known; lines = e; written = nothing_shown shown }
 
-module _ (known₀ known known' shown₀ shown shown' : Option (List ℕ)) (h : Lines) (p : Run known₀ known shown₀ shown h) (memory : List ℕ) where
-  pub run_goes_on : (held : Held) → AfterRead (Ok (Some held)) known known' shown shown' h memory
-      → Holds memory held × Run known₀ known' shown₀ shown' (lines_of memory held)
+module _ (known₀ known known' shown₀ shown shown' : Option (List ℕ)) (h left : Lines) (p : Run known₀ known shown₀ shown h) where
+  pub run_goes_on : AfterRead (Ok true) known known' shown shown' h left → Run known₀ known' shown₀ shown' left
   unfolding AfterRead
-  run_goes_on held (k, a) =
-      let e = in_parts (first []) p.part a.part in (
-        k,
-        record {
-          part = p.part ++ a.part;
-          read = read_more known₀ known known' p.part a.part p.read a.read;
-          lines = a.lines ∙ (ap (λ x. (take_bytes x a.part).lines) p.lines ∙ sym (ap (λ (x : Turned). x.lines) e));
-          written = subst (Appends shown₀ shown')
-              (ap (λ x. (take_bytes (first []) p.part).output ++ (take_bytes x a.part).output) p.lines ∙ sym (ap (λ (x : Turned). x.output) e))
-              (shown_more shown₀ shown shown' _ _ p.written a.written);
-        },
-      )
+  run_goes_on a =
+      let e = in_parts (first []) p.part a.part in
+      record {
+        part = p.part ++ a.part;
+        read = read_more known₀ known known' p.part a.part p.read a.read;
+        lines = a.lines ∙ (ap (λ x. (take_bytes x a.part).lines) p.lines ∙ sym (ap (λ (x : Turned). x.lines) e));
+        written = subst (Appends shown₀ shown')
+            (ap (λ x. (take_bytes (first []) p.part).output ++ (take_bytes x a.part).output) p.lines ∙ sym (ap (λ (x : Turned). x.output) e))
+            (shown_more shown₀ shown shown' _ _ p.written a.written);
+      }
 
-  pub run_ends : AfterRead (Ok None) known known' shown shown' h memory → AllPrinted known₀ known' shown₀ shown'
+  pub run_ends : AfterRead (Ok false) known known' shown shown' h left → AllPrinted known₀ known' shown₀ shown'
   unfolding AfterRead
   run_ends a =
       record {
@@ -151,7 +144,3 @@ module _ (known₀ known known' shown₀ shown shown' : Option (List ℕ)) (h : 
 -- no byte is read, and none is held
 pub no_bytes : (n : ℕ) (a b : Option (List ℕ)) (buffer : List ℕ) → n ≡ 0 → Consumes a b (take n buffer) → Consumes a b []
 no_bytes n a b buffer e h = subst (λ (k : ℕ). Consumes a b (take k buffer)) e h
-
-pub nothing_held : (memory : List ℕ) → lines_of memory (First 0) ≡ first []
-unfolding lines_of
-nothing_held memory = refl

@@ -1,10 +1,8 @@
 -- What the pair program reads and prints, by the bytes that its reader has left and that its writer holds, where they
 -- say which. Standard input and output do not say it.
-use Rattle.std.specs.Prelude.{◌≡◌, List, [], ℕ, Option, Some, None, Result, Ok, Err, ⊤}
+use Rattle.std.specs.Prelude.{◌≡◌, Bool, true, false, List, [], ℕ, Option, Result, Ok, Err, ⊤}
 use Rattle.std.specs.Io.KnownBytes.{Consumes, Appends, IsAtEnd}
 use Rattle.pair_line.specs.PairProgram.{output}
-use Rattle.pair_input.specs.declared.Held.{Held}
-use Rattle.pair_input.specs.Held.{lines_of, Holds}
 use Rattle.pairs.specs.declared.Failed.{Failed}
 use Rattle.pair_input.specs.ByteByByte.{Lines, take_bytes, at_end}
 
@@ -21,12 +19,11 @@ pub record EndPrinted (known known-left shown shown-left : Option (List ℕ)) (h
   pub ended : IsAtEnd known-left
   pub written : Appends shown shown-left (at_end h)
 
--- After a read, by whether the program goes on, and with what it holds then; where it fails nothing is said.
-unfoldable pub AfterRead : Result (Option Held) Failed → (known known-left shown shown-left : Option (List ℕ)) → (h : Lines) → (memory : List ℕ) → Type 0
-AfterRead (Ok (Some held)) known known-left shown shown-left h memory =
-    Holds memory held × PartPrinted known known-left shown shown-left h (lines_of memory held)
-AfterRead (Ok None) known known-left shown shown-left h memory = EndPrinted known known-left shown shown-left h
-AfterRead (Err e) known known-left shown shown-left h memory = ⊤
+-- After a read, by whether the input goes on, and with the lines held then; where it fails nothing is said.
+unfoldable pub AfterRead : Result Bool Failed → (known known-left shown shown-left : Option (List ℕ)) → (h left : Lines) → Type 0
+AfterRead (Ok true) known known-left shown shown-left h left = PartPrinted known known-left shown shown-left h left
+AfterRead (Ok false) known known-left shown shown-left h left = EndPrinted known known-left shown shown-left h
+AfterRead (Err e) known known-left shown shown-left h left = ⊤
 
 -- All of the input is read, and `output` of it is written.
 pub record AllPrinted (known known-left shown shown-left : Option (List ℕ)) : Type 0 where

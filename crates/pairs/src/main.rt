@@ -8,15 +8,13 @@
 // that say which bytes they have left and hold (`take_bytes`, `read_all`). Standard input and output do not say it.
 #![tactic(auto)]
 
-ghost use Rattle.std.specs.Prelude.{IfOk, OnOk, ◌≤◌, length};
+ghost use Rattle.std.specs.Prelude.{◌≡◌, OnOk, ◌≤◌, [], length, take};
 ghost use Rattle.std.specs.Io.KnownBytes.{Appends};
-ghost use Rattle.pair_line.specs.Room.{line_room};
-ghost use Rattle.pair_input.specs.ByteByByte.{take_bytes, at_end};
-ghost use Rattle.pair_input.specs.Held.{lines_of, Holds};
-ghost use Rattle.pair_input.specs.Inner.Held.{BytesTaken};
+ghost use Rattle.pair_input.specs.ByteByByte.{Lines, take_bytes, at_end};
+ghost use Rattle.pair_input.specs.HeldIn.{held_in};
 ghost use Rattle.pairs.specs.Printed.{AfterRead, AllPrinted};
 
-use pair_input::{HELD_BYTES, Held, feed, finish};
+use pair_input::HeldLines;
 use std::fmt;
 use std::io::{Read, Write};
 use std::process::ExitCode;
@@ -40,99 +38,94 @@ impl fmt::Display for Failed {
     }
 }
 
-// Bytes of the output written.
-fn write<W: Write>(to: &mut W, bytes: &[u8]) -> Result<(), Failed>
-    ensures { OnOk result (Appends (W.contents to.old) (W.contents to.new) bytes.now) }
-{
-    to.write_all(bytes).map_err(|_| Failed::Output)
+// The lines held, and the output for them: a buffer that it is put into, and where it is written.
+#[derive(Drop)]
+struct Pairs<W> {
+    lines: HeldLines,
+    out: [u8; OUT_BYTES],
+    to: W,
 }
 
-// Bytes that were read: the output for them is written each time that the buffer is full. What is held after them.
-// kept: a loop by hand, since how many bytes a part has is known only once it is fed.
-fn take_bytes<W: Write>(
-    to: &mut W,
-    memory: &mut [u8],
-    held: Held,
-    bytes: &[u8],
-    out: &mut [u8],
-) -> Result<Held, Failed>
-    requires { Holds memory.old held × (line_room ≤ length out.old) }
-    ensures taken { IfOk result (λ left. BytesTaken memory.old held bytes.now memory.new left) }
-    ensures written { OnOk result (Appends (W.contents to.old) (W.contents to.new)
-        (take_bytes (lines_of memory.old held) bytes.now).output) }
-{
-    let mut current = held;
-    let mut from = 0;
-    while from < bytes.len() {
-        let fed = feed(memory, current, &bytes[from..], out);
-        current = fed.held;
-        from += fed.used;
-        write(to, &out[..fed.at])?;
+impl<W: Write> Pairs<W> {
+    // The front of the buffer written.
+    fn write(&mut self, count: usize) -> Result<(), Failed>
+        requires { count ≤ length self.old.out }
+        ensures written { OnOk result (Appends (W.contents self.old.to) (W.contents self.new.to) (take count self.old.out)) }
+        ensures kept { (self.new.lines ≡ self.old.lines) × (length self.new.out ≡ length self.old.out) }
+    {
+        self.to
+            .write_all(&self.out[..count])
+            .map_err(|_| Failed::Output)
     }
-    Ok(current)
-}
 
-// The end of the input, and the output for it.
-fn at_end<W: Write>(to: &mut W, memory: &[u8], held: Held, out: &mut [u8]) -> Result<(), Failed>
-    requires { Holds memory.now held × (line_room ≤ length out.old) }
-    ensures { OnOk result (Appends (W.contents to.old) (W.contents to.new) (at_end (lines_of memory.now held))) }
-{
-    let n = finish(memory, held, out);
-    write(to, &out[..n])
-}
-
-// Reads once: what is held then, or None at the end of the input.
-fn read_some<R: Read, W: Write>(
-    reader: &mut R,
-    to: &mut W,
-    memory: &mut [u8],
-    held: Held,
-    out: &mut [u8],
-) -> Result<Option<Held>, Failed>
-    requires { Holds memory.old held × (line_room ≤ length out.old) }
-    ensures { AfterRead result (R.remaining reader.old) (R.remaining reader.new)
-        (W.contents to.old) (W.contents to.new) (lines_of memory.old held) memory.new }
-{
-    let mut buffer = [0u8; BUFFER_BYTES];
-    match reader.read(&mut buffer) {
-        Err(_) => Err(Failed::Input),
-        Ok(0) => {
-            at_end(to, memory, held, out)?;
-            Ok(None)
+    // Bytes that were read: the output for them is written each time that the buffer is full.
+    // kept: a loop by hand, since how many bytes a part has is known only once it is fed.
+    fn take_bytes(&mut self, bytes: &[u8]) -> Result<(), Failed>
+        ensures taken { OnOk result (held_in self.new.lines ≡ (take_bytes (held_in self.old.lines) bytes.now).lines) }
+        ensures written { OnOk result (Appends (W.contents self.old.to) (W.contents self.new.to)
+            (take_bytes (held_in self.old.lines) bytes.now).output) }
+    {
+        let mut from = 0;
+        while from < bytes.len() {
+            let fed = self.lines.feed(&bytes[from..], &mut self.out);
+            from += fed.used;
+            self.write(fed.at)?;
         }
-        Ok(n) => Ok(Some(take_bytes(to, memory, held, &buffer[..n], out)?)),
+        Ok(())
     }
-}
 
-// The whole input. A proved loop has to end, and nothing says that an input does: the loop counts its turns, up to a
-// number that no run uses up.
-fn read_all<R: Read, W: Write>(
-    reader: &mut R,
-    to: &mut W,
-    memory: &mut [u8],
-    out: &mut [u8],
-) -> Result<(), Failed>
-    requires { Holds memory.old (Held.First 0) × (line_room ≤ length out.old) }
-    ensures { OnOk result (AllPrinted (R.remaining reader.old) (R.remaining reader.new)
-        (W.contents to.old) (W.contents to.new)) }
-{
-    let mut held = Held::First(0);
-    for _ in 0..u64::MAX {
-        match read_some(reader, to, memory, held, out)? {
-            Some(next) => held = next,
-            None => return Ok(()),
+    // The end of the input, and the output for it.
+    fn at_end(&mut self) -> Result<(), Failed>
+        ensures { OnOk result (Appends (W.contents self.old.to) (W.contents self.new.to) (at_end (held_in self.old.lines))) }
+    {
+        let count = self.lines.finish(&mut self.out);
+        self.write(count)
+    }
+
+    // Reads once: whether the input goes on.
+    fn read_some<R: Read>(&mut self, reader: &mut R) -> Result<bool, Failed>
+        ensures { AfterRead result (R.remaining reader.old) (R.remaining reader.new)
+            (W.contents self.old.to) (W.contents self.new.to) (held_in self.old.lines) (held_in self.new.lines) }
+    {
+        let mut buffer = [0u8; BUFFER_BYTES];
+        match reader.read(&mut buffer) {
+            Err(_) => Err(Failed::Input),
+            Ok(0) => {
+                self.at_end()?;
+                Ok(false)
+            }
+            Ok(count) => {
+                self.take_bytes(&buffer[..count])?;
+                Ok(true)
+            }
         }
     }
-    Err(Failed::Endless)
+
+    // The whole input. A proved loop has to end, and nothing says that an input does: the loop counts its turns, up to
+    // a number that no run uses up.
+    fn read_all<R: Read>(&mut self, reader: &mut R) -> Result<(), Failed>
+        requires { held_in self.old.lines ≡ Lines.first [] }
+        ensures { OnOk result (AllPrinted (R.remaining reader.old) (R.remaining reader.new)
+            (W.contents self.old.to) (W.contents self.new.to)) }
+    {
+        for _ in 0..u64::MAX {
+            if !self.read_some(reader)? {
+                return Ok(());
+            }
+        }
+        Err(Failed::Endless)
+    }
 }
 
 // A read or a write that failed ends the program with status 1.
 fn main(rt: HostRuntime) -> ExitCode {
     let mut reader = rt.stdin();
-    let mut to = rt.stdout();
-    let mut memory = [0u8; HELD_BYTES];
-    let mut out = [0u8; OUT_BYTES];
-    match read_all(&mut reader, &mut to, &mut memory, &mut out) {
+    let mut pairs = Pairs {
+        lines: HeldLines::new(),
+        out: [0; OUT_BYTES],
+        to: rt.stdout(),
+    };
+    match pairs.read_all(&mut reader) {
         Ok(()) => ExitCode::SUCCESS,
         Err(failed) => {
             let _ = eprintln!(rt; "pairs: {failed}");

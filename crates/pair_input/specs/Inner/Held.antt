@@ -1,14 +1,8 @@
 -- What only contracts of inner functions cite, beside `specs/Held.antt`.
 use Rattle.std.specs.Prelude.{◌≡◌, List, ℕ}
 use Rattle.pair_input.specs.declared.Held.{Held}
-use Rattle.pair_input.specs.ByteByByte.{Turned, take_bytes}
+use Rattle.pair_input.specs.ByteByByte.{Turned}
 use Rattle.pair_input.specs.Held.{lines_of, Holds, InMemory, in_memory}
-
--- All bytes are taken.
-pub record BytesTaken (memory : List ℕ) (held : Held) (bytes : List ℕ) (left-memory : List ℕ) (left-held : Held)
-    : Type 0 where
-  pub holds : Holds left-memory left-held
-  pub lines : lines_of left-memory left-held ≡ (take_bytes (lines_of memory held) bytes).lines
 
 -- What a turn of the program keeps: the memory, and the lines in it.
 pub record TurnKept (t : Turned) (s : InMemory) (memory : List ℕ) (held : Held) : Type 0 where

@@ -3,7 +3,7 @@ use Rattle.std.proofs.Common.{arith}
 use Rattle.std.proofs.lemmas.Result.{err_from_is_err_and}
 use Rattle.pairs.specs.Printed.{AfterRead}
 use Rattle.pairs.proofs.Runs as law
-use Rattle.pairs.proofs.read_some.Goals as goal
+use Rattle.pairs.proofs.Pairs.read_some.Goals as goal
 
 pub returns-in-Err : goal.returns-in-Err
 unfolding AfterRead
@@ -31,4 +31,4 @@ pub returns-in_ok-take_bytes-in-Ok : goal.returns-in_ok-take_bytes-in-Ok
 unfolding AfterRead
 returns-in_ok-take_bytes-in-Ok g c =
     let x = c.in_ok-take_bytes-in-Ok.ensures in
-    (x.taken.holds, record { part = _; read = c.in-Ok.ensures.bytes.0; lines = x.taken.lines; written = x.written })
+    record { part = _; read = c.in-Ok.ensures.bytes.0; lines = x.taken; written = x.written }
