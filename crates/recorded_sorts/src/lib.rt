@@ -17,7 +17,6 @@ use resolved_sort::{ENTRIES_AT, ROW_WORDS, SORT_WORDS};
 use sort_entries::{
     sort_is_materializable, sort_join, sort_meet, sort_partial_cmp, sort_widening_distance,
 };
-use words::MOST_WORD;
 
 // The ceilings of a list, as numbers of a line.
 const SORTS: u64 = 1024;
@@ -154,11 +153,12 @@ impl RecordedSorts {
     fn begin(&mut self, numbers: &[u64]) -> Verdict
         ensures { (self.new, result) ≡ begin_line self.old numbers.now }
     {
-        if numbers.len() != 2 || !self.progress.complete() {
+        let &[sorts, entries] = numbers else {
+            return Verdict::NotOfForm;
+        };
+        if !self.progress.complete() {
             return Verdict::NotOfForm;
         }
-        let sorts = numbers[0];
-        let entries = numbers[1];
         if SORTS < sorts || ENTRIES < entries {
             return Verdict::NotOfForm;
         }
@@ -210,23 +210,27 @@ impl RecordedSorts {
         ensures { result ≡ ask_line self.now question numbers.now }
     {
         let progress = self.progress;
-        if numbers.len() != 3 || !progress.complete() {
+        let &[lhs, rhs, recorded] = numbers else {
+            return Verdict::NotOfForm;
+        };
+        if !progress.complete() {
             return Verdict::NotOfForm;
         }
-        let lhs = numbers[0];
-        let rhs = numbers[1];
-        if MOST_WORD < lhs || MOST_WORD < rhs {
+        let Ok(lhs) = u16::try_from(lhs) else {
             return Verdict::NotOfForm;
-        }
+        };
+        let Ok(rhs) = u16::try_from(rhs) else {
+            return Verdict::NotOfForm;
+        };
         let got = ask(
             &self.words,
             usize::from(progress.sorts),
             usize::from(progress.entries),
             question,
-            lhs as u16,
-            rhs as u16,
+            lhs,
+            rhs,
         );
-        if got == numbers[2] {
+        if got == recorded {
             Verdict::Agrees
         } else {
             Verdict::Differs(got)

@@ -18,7 +18,7 @@ use replay::{MAX_WORDS, Recorded, Verdict, store};
 use resolved_sort::{ENTRIES_AT, ROW_WORDS, SORT_WORDS};
 use unification::{Lengths, MAX_VARS};
 use unify_entries::sort_unify;
-use words::{MOST_WORD, copied, copy, put};
+use words::{copied, copy, put};
 
 // The parts of a list stand one after another in its words: sorts and their entries as the entry takes them, nodes and
 // theirs, the bindings, and at last the bindings that the next question leaves.
@@ -229,22 +229,25 @@ impl RecordedUnify {
     fn begin(&mut self, numbers: &[u64]) -> Verdict
         ensures { (self.new, result) ≡ begin_line self.old numbers.now }
     {
-        if numbers.len() != 5 || !self.progress.complete() {
+        let &[sorts, entries, nodes, arguments, variables] = numbers else {
+            return Verdict::NotOfForm;
+        };
+        if !self.progress.complete() {
             return Verdict::NotOfForm;
         }
-        if SORTS < numbers[0] || ENTRIES < numbers[1] || NODES < numbers[2] {
+        if SORTS < sorts || ENTRIES < entries || NODES < nodes {
             return Verdict::NotOfForm;
         }
-        if ARGUMENTS < numbers[3] || VARIABLES < numbers[4] {
+        if ARGUMENTS < arguments || VARIABLES < variables {
             return Verdict::NotOfForm;
         }
         self.progress = Progress {
             total: Lengths {
-                sorts: numbers[0] as u16,
-                entries: numbers[1] as u16,
-                nodes: numbers[2] as u16,
-                arguments: numbers[3] as u16,
-                variables: numbers[4] as u16,
+                sorts: sorts as u16,
+                entries: entries as u16,
+                nodes: nodes as u16,
+                arguments: arguments as u16,
+                variables: variables as u16,
             },
             read: NO_LENGTHS,
         };
@@ -323,15 +326,19 @@ impl RecordedUnify {
     fn binds(&mut self, numbers: &[u64]) -> Verdict
         ensures { (self.new, result) ≡ binds_line self.old numbers.now }
     {
-        if numbers.len() != 2 || !self.progress.complete() {
+        let &[variable, bound] = numbers else {
+            return Verdict::NotOfForm;
+        };
+        if !self.progress.complete() {
             return Verdict::NotOfForm;
         }
-        let variable = numbers[0];
-        let bound = numbers[1];
-        if (self.progress.total.variables as u64) <= variable || MOST_WORD < bound {
+        if (self.progress.total.variables as u64) <= variable {
             return Verdict::NotOfForm;
         }
-        put(&mut self.words, LEFT_AT + (variable as usize), bound as u16);
+        let Ok(bound) = u16::try_from(bound) else {
+            return Verdict::NotOfForm;
+        };
+        put(&mut self.words, LEFT_AT + (variable as usize), bound);
         Verdict::Quiet
     }
 
@@ -340,23 +347,21 @@ impl RecordedUnify {
     fn answer(&mut self, numbers: &[u64]) -> Verdict
         ensures { (self.new, result) ≡ ask_line self.old numbers.now }
     {
-        if numbers.len() != 3 || !self.progress.complete() {
+        let &[lhs, rhs, recorded] = numbers else {
+            return Verdict::NotOfForm;
+        };
+        if !self.progress.complete() {
             return Verdict::NotOfForm;
         }
-        let lhs = numbers[0];
-        let rhs = numbers[1];
-        if MOST_WORD < lhs || MOST_WORD < rhs {
+        let Ok(lhs) = u16::try_from(lhs) else {
             return Verdict::NotOfForm;
-        }
+        };
+        let Ok(rhs) = u16::try_from(rhs) else {
+            return Verdict::NotOfForm;
+        };
         let mut bindings = self.bindings();
-        let got = ask(
-            &self.words,
-            self.progress.total,
-            &mut bindings,
-            lhs as u16,
-            rhs as u16,
-        );
-        let verdict = judge(&self.words, &bindings, got, numbers[2]);
+        let got = ask(&self.words, self.progress.total, &mut bindings, lhs, rhs);
+        let verdict = judge(&self.words, &bindings, got, recorded);
         self.renew();
         verdict
     }

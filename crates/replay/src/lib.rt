@@ -12,7 +12,7 @@ ghost use Rattle.replay.specs.Inner.Lines.{near_enough, words_kept, store_from, 
 use line_input::Lines;
 use std::io;
 use std::io::{Read, Write};
-use words::{MOST_WORD, put, rest};
+use words::{put, rest};
 
 // How many numbers a line has at most, and how many words of a list it gives at most.
 pub const MAX_FIELDS: usize = 18;
@@ -119,10 +119,10 @@ pub fn store(list: &mut [u16], base: usize, values: &[u64]) -> bool
     ensures { words_kept list.new result ≡ store_from list.old base values.now }
 {
     for (i, &value) in values.iter().enumerate() {
-        if MOST_WORD < value {
+        let Ok(word) = u16::try_from(value) else {
             return false;
-        }
-        put(list, base + i, value as u16);
+        };
+        put(list, base + i, word);
     }
     true
 }
