@@ -1,7 +1,7 @@
 -- A literal, as the code meets it: the number sorts to try, and what stands at the end of its place, by the row there. Assumes nothing.
-use mathlib.Core.Path.{◌≡◌, refl, ap, sym, ◌∙◌}
+use mathlib.Core.Path.{◌≡◌, refl, ap, sym, ◌∙◌, subst}
 use mathlib.Core.Bool.{false}
-use mathlib.Core.List.{List}
+use mathlib.Core.List.{List, [], ◌∷◌}
 use mathlib.Core.Option.{some}
 use Prim.Native.Nat.{ℕ, zero, suc, ◌-◌, ◌<◌, ◌≤◌}
 use native.Mathlib.Omega.{arith}
@@ -48,13 +48,29 @@ natural_places (suc (suc zero)) l = omega arith
 natural_places (suc (suc (suc j))) l = absurd (omega (arith, l))
 
 module _ (kind : LitKind) (id : InferSortId) where
-  pub positive_tries : kind ≡ Positive → LitTries kind id (record { ids = four_of 2 3 4 5; count = 4; other = id; up = false; first = 0 })
+  positive_tries : kind ≡ Positive → LitTries kind id (record { ids = four_of 2 3 4 5; count = 4; other = id; up = false; first = 0 })
   unfolding rows_from try_at
   positive_tries e = rw e (record { says = refl; few = omega arith; first = omega arith; places = positive_places; other = refl })
 
-  pub natural_tries : kind ≡ Natural → LitTries kind id (record { ids = four_of 3 4 5 0; count = 3; other = id; up = false; first = 1 })
+  natural_tries : kind ≡ Natural → LitTries kind id (record { ids = four_of 3 4 5 0; count = 3; other = id; up = false; first = 1 })
   unfolding rows_from try_at
   natural_tries e = rw e (record { says = refl; few = omega arith; first = omega arith; places = natural_places; other = refl })
+
+-- the same of places that are those of the number sorts
+module _ (kind : LitKind) (id a b c d : InferSortId) where
+  pub positive_places_tried :
+      a.0 ≡ 2 → b.0 ≡ 3 → c.0 ≡ 4 → d.0 ≡ 5 → kind ≡ Positive
+      → LitTries kind id (record { ids = a ∷ b ∷ c ∷ d ∷ []; count = 4; other = id; up = false; first = 0 })
+  positive_places_tried ea eb ec ed e =
+      let of : ℕ → ℕ → ℕ → ℕ → Type 0 = λ w x y z. LitTries kind id (record { ids = four_of w x y z; count = 4; other = id; up = false; first = 0 }) in
+      subst (λ w. of w b.0 c.0 d.0) (sym ea) (subst (λ x. of 2 x c.0 d.0) (sym eb) (subst (λ y. of 2 3 y d.0) (sym ec) (subst (of 2 3 4) (sym ed) (positive_tries kind id e))))
+
+  pub natural_places_tried :
+      a.0 ≡ 3 → b.0 ≡ 4 → c.0 ≡ 5 → kind ≡ Natural
+      → LitTries kind id (record { ids = a ∷ b ∷ c ∷ record { 0 = 0 } ∷ []; count = 3; other = id; up = false; first = 1 })
+  natural_places_tried ea eb ec e =
+      let of : ℕ → ℕ → ℕ → Type 0 = λ w x y. LitTries kind id (record { ids = four_of w x y 0; count = 3; other = id; up = false; first = 1 }) in
+      subst (λ w. of w b.0 c.0) (sym ea) (subst (λ x. of 3 x c.0) (sym eb) (subst (of 3 4) (sym ec) (natural_tries kind id e)))
 
 -- at a number sort its generality, but never 0 for a natural literal
 abbrev pub lit_of : LitKind → Answer ℕ → LitAt

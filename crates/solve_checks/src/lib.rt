@@ -258,14 +258,15 @@ impl Problem<'_> {
     }
 
     // Whether a name target has a known kind and, where it is an operation, a sort of the list.
-    #[tactic(auto, unfolding(inference::specs::SolveChecks::target_fine))]
     fn target_fine(&self, kind: u16, sort: SortId) -> bool
         ensures { result ≡ target_fine (call_for self.now) kind sort.0 }
     {
-        match NameKind::try_from(kind) {
-            Ok(NameKind::Op) => self.listed(sort),
-            Ok(_) => true,
-            Err(_) => false,
+        let Ok(kind) = NameKind::try_from(kind) else {
+            return false;
+        };
+        match kind {
+            NameKind::Op => self.listed(sort),
+            NameKind::Variable | NameKind::Builtin => true,
         }
     }
 

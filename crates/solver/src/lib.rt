@@ -25,7 +25,7 @@ ghost use Rattle.solver.specs.Inner.Asked.{TriesFine, OverloadsFine, exprs_of_co
 
 use inference::{Constraint, ExprId, LitKind};
 use problem_words::{constraint_at, overload_place, source_at};
-use resolved_sort::{ComplexSort, Run, Sort, SortId};
+use resolved_sort::{ComplexSort, FIRST_PRIMITIVE, Run, Sort, SortId};
 use search_join::agreed;
 use search_leaf::{dominated, leaf};
 use search_state::{Branch, LitAt, Next, Pairs, Search, Step, Tries};
@@ -38,21 +38,24 @@ use unification::{Full, InferSortId};
 // What a comprehension may be: the sort of its body, and the container that it makes.
 #[derive(Clone, Copy)]
 struct Reading {
-    body: Sort,
+    body: InferSortId,
     op: ComplexSort,
 }
 
+// Bool and Set, Nat and Bag, Pos and Bag.
+// kept: the numbers of places by a sum and no From, here since a constant calls no trait's method, and in the cycle of
+// calls below since its goals would speak of what From answers.
 const READINGS: [Reading; 3] = [
     Reading {
-        body: Sort::Bool,
+        body: InferSortId(FIRST_PRIMITIVE + Sort::Bool as u16),
         op: ComplexSort::Set,
     },
     Reading {
-        body: Sort::Nat,
+        body: InferSortId(FIRST_PRIMITIVE + Sort::Nat as u16),
         op: ComplexSort::Bag,
     },
     Reading {
-        body: Sort::Pos,
+        body: InferSortId(FIRST_PRIMITIVE + Sort::Pos as u16),
         op: ComplexSort::Bag,
     },
 ];
@@ -135,7 +138,7 @@ fn solve_join(
     let Some(lub) = agreed(search, at, sources)? else {
         return solve_join_seq(search, at, target, start, end, then);
     };
-    let pair = Pairs::One(target, lub.into());
+    let pair = Pairs::One(target, InferSortId(lub.0));
     if attempt(search, at, pair, Step::Written(count), Next::Solve(then))? {
         return Ok(true);
     }
@@ -228,7 +231,7 @@ fn solve_comprehension(
     let mut found = false;
     for reading in READINGS {
         let container = intern_container(search, reading.op, element)?;
-        let pairs = Pairs::Two(body, reading.body.into(), node, container.into());
+        let pairs = Pairs::Two(body, reading.body, node, InferSortId(container.0));
         found |= attempt(search, at, pairs, Step::Nothing, next)?;
     }
     Ok(found)
