@@ -156,7 +156,10 @@ module _ (line : List ℕ) (at : ℕ) (bs : List ℕ) (text : bs ≡ drop at lin
     parsed = parse_digits digits_model 64 (take n bs) r p all_digits
 
     pub read_none : result_ok r ≡ None → None ≡ number_at line at
-    read_none e = no_number (digits bs) at (λ h. go r _ _ parsed e (omega (arith, counted, all_there, h.0), subst (λ (x : ℕ). x < 2 ^ 64) (sym value) h.1)) ∙ by_text
+    read_none e =
+        no_number (digits bs) at
+        (λ h. go r _ _ parsed e (omega (arith, counted, all_there, h.0), subst (λ (x : ℕ). x < 2 ^ 64) (sym value) h.1))
+        ∙ by_text
       where
         go : (r : Result ℕ E) (P : Type 0) (v : ℕ) → OkIff r P v → result_ok r ≡ None → P → ⊥
         go (Ok x) P v k e = cc

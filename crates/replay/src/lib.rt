@@ -184,7 +184,8 @@ fn say_other<W: Write>(
     what: &[u8],
     got: u64,
 ) -> io::Result<()>
-    ensures { OnOk result (Appends (W.contents out.old) (W.contents out.new) (other_said number text.now what.now got)) }
+    ensures { OnOk result (Appends (W.contents out.old) (W.contents out.new)
+        (other_said number text.now what.now got)) }
 {
     say_line(out, number)?;
     out.write_all(b": ")?;
@@ -313,7 +314,8 @@ pub fn replay_all<T: Recorded, R: Read, W: Write>(
     reader: &mut R,
     out: &mut W,
 ) -> io::Result<()>
-    ensures { OnOk result (Replayed T.step T.complete (length lines.old.line.bytes.now) recorded.old (W.contents out.old) (W.contents out.new)) }
+    ensures { OnOk result (Replayed T.step T.complete (length lines.old.line.bytes.now) recorded.old
+        (W.contents out.old) (W.contents out.new)) }
 {
     let most = lines.line.bytes.len();
     let mut tally = Tally {
@@ -339,7 +341,8 @@ pub fn run<T: Recorded, R: Read, W: Write>(
     reader: &mut R,
     out: &mut W,
 ) -> io::Result<()>
-    ensures { OnOk result (Replayed T.step T.complete held_bytes recorded.old (W.contents out.old) (W.contents out.new)) }
+    ensures { OnOk result (Replayed T.step T.complete held_bytes recorded.old
+        (W.contents out.old) (W.contents out.new)) }
 {
     let mut buffer = [0u8; BUFFER_BYTES];
     let mut line = [0u8; HELD_LINE];
