@@ -12,7 +12,9 @@ ghost use Rattle.sort_writer.specs.Inner.Sizes.{joined, run_size, row_size, size
 ghost use Rattle.text_out.specs.Outs.{then_put};
 ghost use Rattle.sort_writer.specs.Packed.{pack_written, packed_write, pack_write_left};
 
-use resolved_sort::{Counts, ENTRIES_AT, MAX_SORTS, Refusal, ResolvedSort, SORT_WORDS, SortId};
+use resolved_sort::{
+    Counts, ENTRIES_AT, MAX_SORTS, Refusal, ResolvedSort, Run, SORT_WORDS, SortId,
+};
 use sort_checks::test_sorts;
 use sort_interner::{Sorts, get};
 use sort_text::{op_word, sort_word};
@@ -38,50 +40,62 @@ pub fn size_at(sizes: &[usize], id: SortId) -> usize
     sizes.get(id.0 as usize).copied().unwrap_or(0)
 }
 
-// The size of the j-th argument of a run.
-// kept: sizes over the words, since check 13 is made before check 14: a list whose storage is short is no Sorts yet.
-fn argument_size(sorts: &[u16], sizes: &[usize], start: u16, j: u16) -> usize
-    ensures { result ≡ get_or sizes.now (entry_at sorts.now (start + j)) 0 }
-{
-    size_at(
-        sizes,
-        SortId(word(sorts, ENTRIES_AT + ((start as usize) + (j as usize)))),
-    )
+// A list of sorts, and the sizes found so far.
+// kept: over the words, since check 13 is made before check 14: a list whose storage is short is no Sorts yet.
+#[derive(Clone, Copy)]
+struct SizedSorts<'a> {
+    sorts: &'a [u16],
+    sizes: &'a [usize],
 }
 
-// The size of all arguments of a run with ` # ` between them, from the last back to the first. No arguments have no
-// text.
-fn arguments_size(sorts: &[u16], sizes: &[usize], start: u16, count: u16) -> usize
-    ensures { result ≡ run_size sizes.now (entries_of sorts.now start count) }
-{
-    let Some(last) = count.checked_sub(1) else {
-        return 0;
-    };
-    let mut size = argument_size(sorts, sizes, start, last);
-    for j in (0..last).rev() {
-        let first = argument_size(sorts, sizes, start, j);
-        size = join_sizes(first, join_sizes(3, size));
+impl SizedSorts<'_> {
+    // The size of the j-th argument of a run.
+    fn argument(&self, run: Run, j: u16) -> usize
+        ensures { result ≡ get_or self.now.sizes.now (entry_at self.now.sorts.now (run.start + j)) 0 }
+    {
+        size_at(
+            self.sizes,
+            SortId(word(
+                self.sorts,
+                ENTRIES_AT + ((run.start as usize) + (j as usize)),
+            )),
+        )
     }
-    size
-}
 
-// The size of the sort that a row says, by the sizes of its parts. Unit, Def and TypeVar have no text.
-#[tactic(auto, unfolding(crate::specs::Inner::Sizes::row_size))]
-fn row_size(sorts: &[u16], sizes: &[usize], row: ResolvedSort) -> usize
-    ensures { result ≡ row_size sorts.now sizes.now row }
-{
-    match row {
-        ResolvedSort::Unit => 0,
-        ResolvedSort::Primitive(sort) => sort_word(sort).len(),
-        ResolvedSort::Container { op, subsort } => {
-            join_sizes(op_word(op).len() + 2, size_at(sizes, subsort))
+    // The size of all arguments of a run with ` # ` between them, from the last back to the first. No arguments have no
+    // text.
+    fn arguments(&self, run: Run) -> usize
+        ensures { result ≡ run_size self.now.sizes.now (entries_of self.now.sorts.now run.start run.count) }
+    {
+        let Some(last) = run.count.checked_sub(1) else {
+            return 0;
+        };
+        let mut size = self.argument(run, last);
+        for j in (0..last).rev() {
+            let first = self.argument(run, j);
+            size = join_sizes(first, join_sizes(3, size));
         }
-        ResolvedSort::Function { domain, range } => {
-            let arguments = arguments_size(sorts, sizes, domain.start, domain.count);
-            join_sizes(arguments, join_sizes(4, size_at(sizes, range)))
+        size
+    }
+
+    // The size of the sort that a row says, by the sizes of its parts. Unit, Def and TypeVar have no text.
+    #[tactic(auto, unfolding(crate::specs::Inner::Sizes::row_size))]
+    fn row(&self, row: ResolvedSort) -> usize
+        ensures { result ≡ row_size self.now.sorts.now self.now.sizes.now row }
+    {
+        match row {
+            ResolvedSort::Unit => 0,
+            ResolvedSort::Primitive(sort) => sort_word(sort).len(),
+            ResolvedSort::Container { op, subsort } => {
+                join_sizes(op_word(op).len() + 2, size_at(self.sizes, subsort))
+            }
+            ResolvedSort::Function { domain, range } => join_sizes(
+                self.arguments(domain),
+                join_sizes(4, size_at(self.sizes, range)),
+            ),
+            ResolvedSort::Def(_) => 0,
+            ResolvedSort::TypeVar(_) => 0,
         }
-        ResolvedSort::Def(_) => 0,
-        ResolvedSort::TypeVar(_) => 0,
     }
 }
 
@@ -92,7 +106,7 @@ pub fn fill_sizes(sorts: &[u16], n: usize, sizes: &mut [usize])
 {
     for i in 0..n {
         let row = get(sorts, SortId(i as u16));
-        sizes[i] = row_size(sorts, sizes, row);
+        sizes[i] = SizedSorts { sorts, sizes }.row(row);
     }
 }
 
@@ -135,6 +149,7 @@ pub fn put_text(sorts: &Sorts, id: SortId, out: &mut Out)
 }
 
 // Checks 1 to 4, 12, 13 and 14 of writing a sort: the first that fails, or the counts of the list.
+// kept: the list with its counts apart, here, in write and in the export, since C hands them so.
 fn test_write(
     sorts: &[u16],
     sort_count: usize,
@@ -189,6 +204,7 @@ pub fn write(
 }
 
 // An answer as one number: the length of the text, or 2^63 and the code of a refusal.
+// kept: no pack of entry_answers, whose codes take the lowest 8 bits, since a length may need them.
 #[tactic(auto, unfolding(resolved_sort::specs::Entries::code_answered))]
 fn pack_written(answer: Result<usize, Refusal>) -> u64
     ensures { result ≡ pack_written answer }
