@@ -30,6 +30,7 @@ use text_out::Out;
 use words::rest;
 
 // Lines of the input that one line of output answers: a pair; or a line alone at the end of the input.
+// kept: two cases by name and no None for the second line, since a line alone is answered by 21 or by what is wrong.
 #[derive(Clone, Copy)]
 pub enum Gathered<'a> {
     Pair(&'a [u8], &'a [u8]),
@@ -78,6 +79,7 @@ fn put_steps(steps: Option<Steps>, out: &mut Out)
 }
 
 // The text of a join (up) or meet, or `none`. What it makes stays in the storage, where room does not end (`not_full`).
+// kept: sorts and out apart, here and below, since a &mut in a struct within a struct is lost where its borrow ends.
 fn put_bound(sorts: &mut SortInterner, up: bool, lhs: SortId, rhs: SortId, out: &mut Out)
     requires { BoundRoom sorts.old.words.now sorts.old.counts.sorts sorts.old.counts.entries lhs.0 rhs.0 }
     ensures put { out.new

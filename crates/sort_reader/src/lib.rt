@@ -9,14 +9,14 @@ ghost use Rattle.sort_text.specs.Parse.{line as line_of};
 ghost use Rattle.sort_text.specs.Reading.{read_checks, read_left, read_at, read_as_of, reading};
 ghost use Rattle.sort_reader.specs.Inner.Tested.{Passes};
 
-use resolved_sort::{ComplexSort, Counts, Refusal, SORT_WORDS, SortId};
+use resolved_sort::{ComplexSort, Counts, FIXED_SORTS, Refusal, SORT_WORDS, SortId};
 use sort_checks::test_sorts;
 use sort_interner::SortInterner;
 use sort_recogniser::recognise;
 use sort_text::{FUNCTION_STEP, MAX_LINE, Unread};
 
-// A step of a sort, parts first: one of the fixed six sorts; a container over the sort on top of the stack; or a function
-// of so many sorts below the one on top, its range.
+// A step of a sort, parts first: one of the fixed six sorts; a container over the sort on top of the stack; or a
+// function of so many sorts below the one on top, its range.
 #[derive(Clone, Copy, Debug, PartialEq, Eq)]
 enum Step {
     Fixed(SortId),
@@ -29,12 +29,13 @@ impl From<u8> for Step {
 
     #[tactic(auto, unfolding(crate::specs::Inner::Run::SaysStep))]
     fn from(byte: u8) -> Self {
-        match byte {
-            0..=5 => Step::Fixed(SortId(u16::from(byte))),
-            _ => match ComplexSort::try_from(u16::from(byte)) {
-                Ok(op) => Step::Container(op),
-                Err(_) => Step::Function(usize::from(byte.saturating_sub(FUNCTION_STEP))),
-            },
+        let kind = u16::from(byte);
+        if kind < FIXED_SORTS {
+            return Step::Fixed(SortId(kind));
+        }
+        match ComplexSort::try_from(kind) {
+            Ok(op) => Step::Container(op),
+            Err(_) => Step::Function(usize::from(byte.saturating_sub(FUNCTION_STEP))),
         }
     }
 }
@@ -80,8 +81,8 @@ impl Stack {
     }
 }
 
-// Carries out the steps of a sort; the sort that is then on top of the stack. None where room ends, or where the stack has
-// not what a step takes.
+// Carries out the steps of a sort; the sort that is then on top of the stack. None where room ends, or where the stack
+// has not what a step takes.
 fn run(sorts: &mut SortInterner, steps: &[u8]) -> Option<SortId>
     requires { Running sorts.old.words.now sorts.old.counts.sorts sorts.old.counts.entries steps.now 0 [] 0 }
     ensures same_reference { sorts.new.words.ghost_name ≡ sorts.old.words.ghost_name }
@@ -111,6 +112,7 @@ fn run(sorts: &mut SortInterner, steps: &[u8]) -> Option<SortId>
 }
 
 // Checks 1 to 4, 14 and 19: the first that fails, or the counts of the list.
+// kept: the list with its counts apart, here and in read, as callers of every entry hand them.
 fn test_read(
     sorts: &[u16],
     sort_count: usize,
