@@ -18,6 +18,7 @@ use pair_line::{Gathered, LINE_ROOM, put_line};
 use text_out::Out;
 
 // How many bytes are held: of the first line of a pair; or of the first line and, behind it, of the second.
+// kept: two cases by name, as the definition of the lines that are held has them.
 #[derive(Clone, Copy, Debug, PartialEq, Eq)]
 pub enum Held {
     First(usize),
@@ -108,7 +109,8 @@ impl HeldLines {
         }
     }
 
-    // The end of the input: the line of output for what is still held, and its length. A last nonempty line needs no LF.
+    // The end of the input: the line of output for what is still held, and its length. A last nonempty line needs no
+    // LF.
     pub fn finish(&self, out: &mut [u8]) -> usize
         requires { line_room ≤ length out.old }
         ensures { Put out.old 0 (at_end (held_in self.now)) out.new result }

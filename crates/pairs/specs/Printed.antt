@@ -20,7 +20,8 @@ pub record EndPrinted (known known-left shown shown-left : Option (List ℕ)) (h
   pub written : Appends shown shown-left (at_end h)
 
 -- After a read, by whether the input goes on, and with the lines held then; where it fails nothing is said.
-unfoldable pub AfterRead : Result Bool Failed → (known known-left shown shown-left : Option (List ℕ)) → (h left : Lines) → Type 0
+unfoldable pub AfterRead : Result Bool Failed → (known known-left shown shown-left : Option (List ℕ)) → (h left : Lines)
+    → Type 0
 AfterRead (Ok true) known known-left shown shown-left h left = PartPrinted known known-left shown shown-left h left
 AfterRead (Ok false) known known-left shown shown-left h left = EndPrinted known known-left shown shown-left h
 AfterRead (Err e) known known-left shown shown-left h left = ⊤

@@ -50,7 +50,8 @@ impl<W: Write> Pairs<W> {
     // The front of the buffer written.
     fn write(&mut self, count: usize) -> Result<(), Failed>
         requires { count ≤ length self.old.out }
-        ensures written { OnOk result (Appends (W.contents self.old.to) (W.contents self.new.to) (take count self.old.out)) }
+        ensures written { OnOk result (Appends (W.contents self.old.to) (W.contents self.new.to)
+            (take count self.old.out)) }
         ensures kept { (self.new.lines ≡ self.old.lines) × (length self.new.out ≡ length self.old.out) }
     {
         self.to
@@ -76,7 +77,8 @@ impl<W: Write> Pairs<W> {
 
     // The end of the input, and the output for it.
     fn at_end(&mut self) -> Result<(), Failed>
-        ensures { OnOk result (Appends (W.contents self.old.to) (W.contents self.new.to) (at_end (held_in self.old.lines))) }
+        ensures { OnOk result (Appends (W.contents self.old.to) (W.contents self.new.to)
+            (at_end (held_in self.old.lines))) }
     {
         let count = self.lines.finish(&mut self.out);
         self.write(count)
