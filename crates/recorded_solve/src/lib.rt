@@ -152,16 +152,14 @@ fn start_of_words(numbers: &[u64]) -> Option<usize>
     ensures start { result ≡ start_in numbers.now }
     ensures near { IfSome result (λ at. (at ≤ near_enough) × (2 ≤ length numbers.now)) }
 {
-    if numbers.len() < 2 {
+    let &[slice, at, ref words @ ..] = numbers else {
         return None;
-    }
-    let slice = numbers[0];
-    let at = numbers[1];
+    };
     if LAST_SLICE < slice || SLICE_WORDS < at {
         return None;
     }
     let start = start_of(slice as usize) + (at as usize);
-    if start_of((slice as usize) + 1) < start + (numbers.len() - 2) {
+    if start_of((slice as usize) + 1) < start + words.len() {
         return None;
     }
     Some(start)
