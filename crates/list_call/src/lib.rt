@@ -2,12 +2,12 @@
 // them.
 #![tactic(auto)]
 
-ghost use Rattle.std.specs.Prelude.{◌≡◌, ◌+◌, ◌*◌, ◌≤◌, length};
+ghost use Rattle.std.specs.Prelude.{◌≡◌, ◌+◌, ◌*◌, ◌≤◌, length, get_or, cond, eqb, Some, None};
 ghost use Rattle.inference.specs.SolveEntry.{solve_entry};
 ghost use Rattle.list_memory.specs.Memory.{rows_at, rows_given};
 ghost use Rattle.list_memory.specs.Layouts.{table_number, slice_number, layout_of};
 ghost use Rattle.solve_outputs.specs.Handout.{solve_left_with, SameHandout};
-ghost use Rattle.list_call.specs.Lists.{call_count, told_or, length_lent, slice_lent, given_in, call_by};
+ghost use Rattle.list_call.specs.Lists.{call_count, length_lent, slice_lent, given_in, call_by};
 
 use inference::Verdict;
 use list_memory::{
@@ -19,16 +19,20 @@ use solve_entries::solve;
 use solve_outputs::Handout;
 use words::word;
 
+// A word of the list that a line told, where the word that says so is 1.
+fn told(list: &[u16], told_at: usize, at: usize) -> Option<u16>
+    ensures { result ≡ cond (eqb (get_or list.now told_at 0) 1) (Some (get_or list.now at 0)) None }
+{
+    (word(list, told_at) == 1).then_some(word(list, at))
+}
+
 // The count of a table in the call.
 #[tactic(auto, unfolding(crate::specs::Lists::call_count))]
 pub fn count_of(list: &[u16], table: Table) -> u16
     ensures { result ≡ call_count list.now (table_number table) }
 {
     let k = table.number();
-    if word(list, COUNTS_TOLD_AT + k) == 1 {
-        return word(list, COUNTS_AT + k);
-    }
-    rows_given(list, table)
+    told(list, COUNTS_TOLD_AT + k, COUNTS_AT + k).unwrap_or(rows_given(list, table))
 }
 
 // The counts of the call, and the default sort.
@@ -50,24 +54,15 @@ pub fn given_in(list: &[u16]) -> Given
     }
 }
 
-// How many words are told to be lent of a slice; n where none are.
-#[tactic(auto, unfolding(crate::specs::Lists::told_or))]
-fn told_or(list: &[u16], slice: Slice, n: usize) -> usize
-    ensures { result ≡ told_or list.now (slice_number slice) n }
-{
-    let j = slice.number();
-    if word(list, LENT_TOLD_AT + j) == 1 {
-        return word(list, LENT_AT + j) as usize;
-    }
-    n
-}
-
-// How many words are lent of a slice: its ceiling at most.
-#[tactic(auto, unfolding(crate::specs::Lists::length_lent))]
+// How many words are lent of a slice: as many as told, n where none are; its ceiling at most.
+#[tactic(auto, unfolding(crate::specs::Lists::told_or, crate::specs::Lists::length_lent))]
 pub fn length_of(list: &[u16], slice: Slice, n: usize, top: usize) -> usize
     ensures { (result ≡ length_lent list.now (slice_number slice) n top) × (result ≤ top) }
 {
-    told_or(list, slice, n).min(top)
+    let j = slice.number();
+    told(list, LENT_TOLD_AT + j, LENT_AT + j)
+        .map_or(n, usize::from)
+        .min(top)
 }
 
 // A slice that a call does not change, as a part of the list: where nothing is told, as many words as the rows given of

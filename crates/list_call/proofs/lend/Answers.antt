@@ -1,5 +1,5 @@
 -- The part is as long as is lent. Assumes nothing.
-use Rattle.std.proofs.Common.{refl, arith, ◌*◌, ap, ◌∙◌}
+use Rattle.std.proofs.Common.{refl, arith, ◌*◌, ◌≤◌, ap, ◌∙◌}
 use Rattle.list_memory.specs.declared.Layout.{Layout}
 use Rattle.list_memory.specs.Layouts.{table_number, slice_number}
 use Rattle.list_memory.specs.Memory.{rows_given}
@@ -9,11 +9,12 @@ use Rattle.list_call.proofs.lend.Goals as goal
 
 pub overflow_mul-words : goal.overflow_mul-words
 overflow_mul-words c =
-    omega (arith, law.few_words c.layout-layout.result.width c.rows_given.result c.layout-layout.ensures.narrow c.rows_given.ensures.1)
+    let rows : c.rows_given.result ≤ 65535 = omega (arith, c.rows_given.type_inv) in
+    omega (arith, law.few_words c.layout-layout.result.width c.rows_given.result c.layout-layout.ensures.narrow rows)
 
 pub returns : goal.returns
 returns c =
-    law.part_lent c.args.list.now _ _ _ _ _ _ _ _ c.rows_given.ensures.0 c.length_of.ensures.0 refl
+    law.part_lent c.args.list.now _ _ _ _ _ _ _ _ c.rows_given.ensures c.length_of.ensures.0 refl
     ∙ ap
     (λ (l : Layout). slice_lent c.args.list.now l.start (slice_number c.args.slice) (l.width * rows_given c.args.list.now (table_number c.args.table)) (l.width * l.ceiling))
     c.layout-layout.ensures.layout
