@@ -23,6 +23,6 @@ returns-clause-says c =
     (list.front_lent ws 8192 12288 _ (omega arith) c.copied-nodes.ensures _ _ _ c.length_of-nodes_end.ensures.0 c.length_of-nodes_end.ensures.1)
     (list.rows_lent ws _ 20480 2 4 512 _
     (list.front_lent ws 20480 512 _ (omega arith) c.copied-binds.ensures _ _ _ c.length_of-binds_end.ensures.0 c.length_of-binds_end.ensures.1)
-    c.rows_given-rows.ensures.0)
+    c.rows_given-rows.ensures)
     (list.front_lent ws 29952 4096 _ (omega arith) c.copied-scratch.ensures _ _ _ c.length_of-scratch_end.ensures.0 c.length_of-scratch_end.ensures.1)
     _ _ _ _ _ _ _ _ c.solve_list.ensures.says
