@@ -1,23 +1,21 @@
 -- An answer told by its case, and what is left after asking and telling. Assumes nothing.
 use mathlib.Core.Path.{◌≡◌, refl, sym, ◌∙◌, ap, subst}
-use mathlib.Core.List.{List, ◌++◌, append-nil}
+use mathlib.Core.List.{List}
 use Prim.Native.Nat.{ℕ}
-use Rattle.resolved_sort.specs.declared.Counts.{Counts}
 use Rattle.resolved_sort.specs.Rows.{Checked}
 use Rattle.inference.specs.declared.Outputs.{Outputs}
 use Rattle.std.specs.Prelude.{Ok, Err}
 use Rattle.inference.specs.declared.Verdict.{Verdict}
 use Rattle.inference.specs.declared.Verdict.TheVariants.{NoTyping, Ambiguous, Typing}
 use Rattle.inference.specs.SolveChecks.{Call}
-use Rattle.inference.specs.SolveEntry.{Solved, solve_entry, code_solved}
+use Rattle.inference.specs.SolveEntry.{Solved, solve_entry}
 use Rattle.inference.specs.ListsLeft.{counts_told}
 use Rattle.inference.proofs.ListsLeft.{sorts_only_grow}
 use Rattle.text_out.specs.declared.Out.{Out}
 use Rattle.text_out.specs.Outs.{then_put}
-use Rattle.list_verdict.specs.Text.{verdict_line, new_lines, typing_text}
 use Rattle.list_call.specs.Lists.{call_count, sorts_in, typing_in, measure_in, choices_in, call_on}
 use Rattle.list_solve.specs.Inner.Asked.{ListAnswer, list_answer, list_answer_of}
-use Rattle.list_answers.specs.Answer.{lines_under, told_text, answer_text}
+use Rattle.list_answers.specs.Answer.{told_text, answer_text}
 use Rattle.list_answers.specs.Inner.Answer.{Tellable, told_of}
 
 pub checked_to_tell : (r : Solved) (ss : List ℕ) → Tellable r ss → (o : Outputs) → r ≡ Ok (Typing o) → Checked ss o.counts.sorts o.counts.entries

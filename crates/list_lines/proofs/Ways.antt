@@ -13,7 +13,7 @@ use Rattle.text_out.specs.Outs.{then_put}
 use Rattle.text_out.specs.Quoted.{bytes_of}
 use Rattle.text_out.specs.Within.{PutWithin}
 use Rattle.text_out.proofs.Within.{put_none, put_as}
-use Rattle.list_lines.specs.Lines.{unasked_text, printed, numbered, LineLeft, line_left, line_left_by, heard_line}
+use Rattle.list_lines.specs.Lines.{unasked_text, printed, numbered, line_left, line_left_by, heard_line}
 
 pub heard :
     (ws line : List ℕ) (out left : Out) {vs : List ℕ} {h : Result Heard Form} → taken vs h ≡ line_taken ws line → (H : Result Heard Form) → h ≡ H
