@@ -22,7 +22,9 @@ use Rattle.sort_lexer.specs.Inner.Meant.{meant}
 use Rattle.sort_lexer.proofs.Lexemes.{ends_at_the_end}
 use Rattle.sort_recogniser.specs.declared.Stuck.{Stuck}
 use Rattle.sort_recogniser.specs.declared.Recogniser.{Recogniser}
-use Rattle.sort_recogniser.specs.Inner.Says.{Recognised, done_at, stuck_at, ended, Says, SaysRest, HasRoom, Same, Read, ReadRest, same_but_place, Met}
+use Rattle.sort_recogniser.specs.Inner.Says.{Recognised, done_at, stuck_at, ended, Says, SaysRest, Met}
+use Rattle.sort_recogniser.specs.Inner.States.{needed, Same, Read, ReadRest, same_but_place}
+use Rattle.sort_recogniser.specs.Inner.Room.{RoomFrom}
 use Rattle.sort_recogniser.proofs.Ways as way
 
 -- the same of equal buffers and ends
@@ -35,18 +37,25 @@ reread : (l l' out out' : List ℕ) (n n' p p' : ℕ) (left : List ℕ) (q : Rec
     → Says l (p + 1) (n + (length l - p)) (take n out) (sort (drop p l)) left q
 reread l l' out out' n n' p p' left q e f g h s = rw (← e, ← f, ← g, ← h) s
 
+-- there is room
+abbrev pub HasRoom : Recogniser → Type 0
+HasRoom s = RoomFrom s.reader.line.now s.reader.at s.steps.now s.count
+
 -- one step written
 pub record Pushed (s s' : Recogniser) (v : ℕ) : Type 0 where
   pub reader : s'.reader ≡ s.reader
   pub steps : s'.steps.now ≡ set s.steps.now s.count v
   pub count : s'.count ≡ s.count + 1
 
--- a state at another position
-abbrev pub moved : Recogniser → ℕ → Recogniser
-moved s p = record { reader = record { line = s.reader.line; at = p }; steps = s.steps; count = s.count }
+-- a state at another position, where there is room too
+abbrev pub moved : (s : Recogniser) (p : ℕ) → RoomFrom s.reader.line.now p s.steps.now s.count → Recogniser
+moved s p m = record { reader = record { line = s.reader.line; at = p }; steps = s.steps; count = s.count; room = m }
+
+abbrev pub RoomAt : Recogniser → ℕ → Type 0
+RoomAt s p = RoomFrom s.reader.line.now p s.steps.now s.count
 
 module _ (s : Recogniser) (room : HasRoom s) (r : Lexeme) (e : r ≡ lexeme_of s.reader.line.now s.reader.at) where
-  pub room_after : (w : Token) → r.token ≡ w → HasRoom (moved s r.next)
+  pub room_after : (w : Token) → r.token ≡ w → RoomAt s r.next
   room_after w f =
       let g = way.later s.reader.line.now s.reader.at room.0 s.steps.now s.count room.1 r e w f in
       let d = way.later_within s.reader.line.now s.reader.at room.0 s.steps.now s.count room.1 r e in
@@ -62,18 +71,18 @@ module _ (s : Recogniser) (room : HasRoom s) (r : Lexeme) (e : r ≡ lexeme_of s
     pub word_refuses : w ≡ None → Read s (s.reader.at + 1) (operand sort (drop s.reader.at s.reader.line.now)) s (Err (record { 0 = r.at }))
     word_refuses g = record { same = (refl, refl); says = way.operand_unknown s.reader.line.now s.reader.at room.0 s.steps.now s.count room.1 r e f w i g }
 
-    pub takes_sort : (b : Sort) → w ≡ Some (Basic b) → (v : ℕ) → v ≡ kind_flat (primitive b) → (s' : Recogniser) → Pushed (moved s r.next) s' v
+    pub takes_sort : (b : Sort) → w ≡ Some (Basic b) → (v : ℕ) → v ≡ kind_flat (primitive b) → (m : RoomAt s r.next) (s' : Recogniser) → Pushed (moved s r.next m) s' v
         → Read s (s.reader.at + 1) (operand sort (drop s.reader.at s.reader.line.now)) s' (Ok tt)
-    takes_sort b g v ev s' p = record {
+    takes_sort b g v ev m s' p = record {
       same = (ap (λ x. x.line.now) p.reader, ap length p.steps ∙ length-set s.steps.now s.count v);
       says = lands _ _ _ _ _ _ _ _ _ p.steps (ap₂ done_at (ap (λ x. x.at) p.reader) p.count)
           (way.operand_basic s.reader.line.now s.reader.at room.0 s.steps.now s.count room.1 r e f w i b g v ev);
     }
 
-    pub takes_container : (o : ComplexSort) → w ≡ Some (Container o) → (s' : Recogniser) (q : Result (Unit {0}) Stuck)
-        → Read (moved s r.next) r.next (bracketed sort o (skip (drop r.next s.reader.line.now)) (next is_letter (drop r.next s.reader.line.now))) s' q
+    pub takes_container : (o : ComplexSort) → w ≡ Some (Container o) → (m : RoomAt s r.next) (s' : Recogniser) (q : Result (Unit {0}) Stuck)
+        → Read (moved s r.next m) r.next (bracketed sort o (skip (drop r.next s.reader.line.now)) (next is_letter (drop r.next s.reader.line.now))) s' q
         → Read s (s.reader.at + 1) (operand sort (drop s.reader.at s.reader.line.now)) s' q
-    takes_container o g s' q k = record {
+    takes_container o g m s' q k = record {
       same = k.same;
       says = way.operand_over s.reader.line.now s.reader.at room.0 s.steps.now s.count room.1 r e f w i o g s'.steps.now (ended s'.reader.at s'.count q) k.says;
     }
@@ -89,8 +98,8 @@ module _ (s : Recogniser) (room : HasRoom s) (r : Lexeme) (e : r ≡ lexeme_of s
     pub several_alone : (r.token ≡ Hash → ⊥) → (r.token ≡ Arrow → ⊥) → (k ≡ 1 → ⊥) → ReadRest s k s (Err (record { 0 = r.at }))
     several_alone y z g = record { same = (refl, refl); says = way.rest_many s.reader.line.now s.reader.at room.0 s.steps.now s.count room.1 r e y z k g }
 
-    module _ (f : r.token ≡ Hash) (few : k < 16) (s' : Recogniser) (q : Result (Unit {0}) Stuck)
-        (read : Read (moved s r.next) (r.next + 1) (operand sort (drop r.next s.reader.line.now)) s' q) where
+    module _ (f : r.token ≡ Hash) (few : k < 16) (m : RoomAt s r.next) (s' : Recogniser) (q : Result (Unit {0}) Stuck)
+        (read : Read (moved s r.next m) (r.next + 1) (operand sort (drop r.next s.reader.line.now)) s' q) where
       pub room_next : (u : Unit {0}) → q ≡ Ok u → HasRoom s' × (s.reader.at + 1 ≤ s'.reader.at) × (length s'.reader.line.now ≡ length s.reader.line.now)
       room_next u g =
           let d = way.done_room s.reader.line.now _ _ _ _ _ _ _ _ read.says (ap (ended s'.reader.at s'.count) g) in
@@ -113,8 +122,8 @@ module _ (s : Recogniser) (room : HasRoom s) (r : Lexeme) (e : r ≡ lexeme_of s
             (subst (λ x. SaysRest x s'.reader.at s'.steps.now s'.count (k + 1) s''.steps.now (ended s''.reader.at s''.count q')) read.same.0 k'.says);
       }
 
-    module _ (f : r.token ≡ Arrow) (s' : Recogniser) (q : Result (Unit {0}) Stuck)
-        (read : Read (moved s r.next) (r.next + 1) (sort (drop r.next s.reader.line.now)) s' q) where
+    module _ (f : r.token ≡ Arrow) (m : RoomAt s r.next) (s' : Recogniser) (q : Result (Unit {0}) Stuck)
+        (read : Read (moved s r.next m) (r.next + 1) (sort (drop r.next s.reader.line.now)) s' q) where
       pub range_refuses : (t : Stuck) → q ≡ Err t → ReadRest s k s' (Err t)
       range_refuses t g = record {
         same = read.same;
@@ -122,9 +131,13 @@ module _ (s : Recogniser) (room : HasRoom s) (r : Lexeme) (e : r ≡ lexeme_of s
             (ap (ended s'.reader.at s'.count) g);
       }
 
-      pub range_has_room : (u : Unit {0}) → q ≡ Ok u → s'.count < length s'.steps.now
-      range_has_room u g = way.range_room s.reader.line.now s.reader.at room.0 s.steps.now s.count room.1 r e f k s'.steps.now read.same.1 _ read.says s'.reader.at s'.count
-          (ap (ended s'.reader.at s'.count) g)
+      pub range_has_room : (u : Unit {0}) → q ≡ Ok u → needed s' < length s'.steps.now
+      range_has_room u g = omega (
+        arith,
+        ap length read.same.0,
+        way.range_room s.reader.line.now s.reader.at room.0 s.steps.now s.count room.1 r e f k s'.steps.now read.same.1 _ read.says s'.reader.at s'.count
+            (ap (ended s'.reader.at s'.count) g),
+      )
 
       pub range_goes_on : (u : Unit {0}) → q ≡ Ok u → (v : ℕ) → v ≡ 16 + k → (s'' : Recogniser) → Pushed s' s'' v → ReadRest s k s'' (Ok tt)
       unfolding SaysRest
@@ -225,13 +238,15 @@ module _ (s : Recogniser) (room : HasRoom s) (o : ComplexSort) where
         says_closed = way.in_brackets_goes_on s.reader.line.now inner.next s.steps.now s.count s₂.steps.now _ (says_inside s₂ (Ok tt) read) s₂.reader.at s₂.count refl
             (done_at behind.next s₂.count) (way.closing_done s.reader.line.now s₂.reader.at within s₂.count behind refl (in_line (Ok tt) closed).0)
 
-        pub room_closed : s₃.count < length s₃.steps.now
+        pub room_closed : needed s₃ < length s₃.steps.now
         room_closed = omega (
           arith,
           way.bracketed_room s.reader.line.now s.reader.at room.0 s.steps.now s.count room.1 inner refl opened.0 o s₂.steps.now
               (same₂ s₂ (Ok tt) read).1 _ says_closed behind.next s₂.count refl,
           same₃.2,
           ap length same₃.1,
+          (in_line (Ok tt) closed).1,
+          ap length (same₃.0 ∙ (same₂ s₂ (Ok tt) read).0),
         )
 
         pub closes : (v : ℕ) → v ≡ kind_op o → (s₄ : Recogniser) → Pushed s₃ s₄ v → Read s s.reader.at here s₄ (Ok tt)

@@ -275,7 +275,7 @@ module _ (l : List ℕ) where
       bracketed_passes p i = rw bracketed_is (stuck_then (r.next + 1) (n + (length l - r.next)) (take n old)
           (in_brackets sort (drop r.next l)) out q p _ at room (take n old) out s i)
 
-      pub bracketed_room : (p m : ℕ) → q ≡ done_at p m → m < length out
+      pub bracketed_room : (p m : ℕ) → q ≡ done_at p m → m + (length l - p) < length out
       bracketed_room p m i =
           let d = done_room (r.next + 1) (n + (length l - r.next)) (take n old) (in_brackets sort (drop r.next l)) out q p m s i in
           omega (arith, d.2, d.1, d.0, goes_at_least_from l at r e Open f h, fit, same)
@@ -293,7 +293,7 @@ module _ (l : List ℕ) where
             within = d.wrote.within;
             goes_on = d.wrote.goes_on;
             fits = omega (arith, d.wrote.fits, d.wrote.further, d.wrote.within);
-            written = one_more out m v (bracketed_room p m i)
+            written = one_more out m v (omega (arith, bracketed_room p m i))
                 ∙ (ap₂ (λ xs x. xs ++ (x ∷ [])) d.wrote.written ev ∙ append_assoc (take n old) (postfix d.sort_read) (kind_op op ∷ []));
           }
 
@@ -408,7 +408,7 @@ module _ (l : List ℕ) where
       range_passes p i front ts w a = rw (arrow_is ts) (stuck_then (r.next + 1) (n + (length l - r.next))
           (take n old) (sort (drop r.next l)) out q p _ at room front out s i)
 
-      pub range_room : (p m : ℕ) → q ≡ done_at p m → m < length out
+      pub range_room : (p m : ℕ) → q ≡ done_at p m → m + (length l - p) < length out
       range_room p m i =
           let d = done_room (r.next + 1) (n + (length l - r.next)) (take n old) (sort (drop r.next l)) out q p m s i in
           omega (arith, d.2, d.1, d.0, goes_at_least_from l at r e Arrow f h, fit, same)
@@ -425,7 +425,7 @@ module _ (l : List ℕ) where
             within = d.wrote.within;
             goes_on = d.wrote.goes_on;
             fits = omega (arith, d.wrote.fits, d.wrote.further, d.wrote.within);
-            written = one_more out m v (range_room p m i)
+            written = one_more out m v (omega (arith, range_room p m i))
                 ∙ (ap₂ (λ xs x. xs ++ (x ∷ [])) (d.wrote.written ∙ ap (λ x. x ++ postfix d.sort_read) w) (ev ∙ ap (λ x. 16 + x) (sym a))
                 ∙ (append_assoc (front ++ postfixes ts) (postfix d.sort_read) ((16 + arity ts) ∷ []) ∙ append_assoc
                 front (postfixes ts) (postfix d.sort_read ++ ((16 + arity ts) ∷ []))));

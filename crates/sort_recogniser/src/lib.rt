@@ -7,7 +7,8 @@ ghost use Rattle.resolved_sort.specs.Tree.{primitive};
 ghost use Rattle.resolved_sort.specs.Storage.{kind_flat, kind_op, max_arguments};
 ghost use Rattle.sort_text.specs.Tokens.{is_letter, skip, next};
 ghost use Rattle.sort_text.specs.declared.Unread.TheVariants.{NotASort};
-ghost use Rattle.sort_recogniser.specs.Inner.Says.{Met, HasRoom, Read, ReadRest, same_but_place};
+ghost use Rattle.sort_recogniser.specs.Inner.Says.{Met};
+ghost use Rattle.sort_recogniser.specs.Inner.Room.{RoomFrom};
 ghost use Rattle.sort_recogniser.specs.Inner.Cleared.{RecognisedAs, LineRecognised};
 ghost use Rattle.sort_text.specs.Parse as Parse;
 
@@ -44,7 +45,7 @@ fn step_of_op(op: ComplexSort) -> u8
     FIRST_CONTAINER_STEP + (op as u8)
 }
 
-// How far a line is recognised, and the steps of what it said so far.
+// How far a line is recognised, and the steps of what it said so far, with room for a step for each byte that is left.
 // kept: methods copy the reader before they ask it, since a call on a field that holds a reference gets no proof.
 #[derive(Drop)]
 struct Recogniser<'a> {
@@ -52,12 +53,15 @@ struct Recogniser<'a> {
     // kept: a buffer and its count, and no Out: a &mut in a struct within this one is lost where its borrow ends.
     steps: &'a mut [u8],
     count: usize,
+    ghost room: { RoomFrom reader.line.now reader.at steps.now count },
 }
 
 impl<'a> Recogniser<'a> {
+    ghost use Rattle.sort_recogniser.specs.Inner.States.{Read, ReadRest, needed, same_but_place};
+
     // One more step.
     fn push(&mut self, step: u8)
-        requires { self.old.count < length self.old.steps.now }
+        requires { needed self.old < length self.old.steps.now }
         ensures same_reference { self.new.steps.ghost_name ≡ self.old.steps.ghost_name }
         ensures pushed { self.new.steps.now ≡ set self.old.steps.now self.old.count step }
         ensures counted { self.new.count ≡ self.old.count + 1 }
@@ -86,7 +90,7 @@ impl<'a> Recogniser<'a> {
     // kept: a call of itself for each `#`, as Parse.rest is defined; k counts operands and is no index.
     #[cycle(bracketed_operand_rest_sort)]
     fn rest(&mut self, k: u8) -> Result<(), Stuck>
-        requires { HasRoom self.old × (1 ≤ k) × (k ≤ max_arguments) }
+        requires { (1 ≤ k) × (k ≤ max_arguments) }
         ensures same_reference { self.new.steps.ghost_name ≡ self.old.steps.ghost_name }
         ensures says { ReadRest self.old k self.new result }
     {
@@ -113,7 +117,6 @@ impl<'a> Recogniser<'a> {
     // `(` after a container word, the sort in it, and `)`.
     #[cycle(bracketed_operand_rest_sort)]
     fn bracketed(&mut self, op: ComplexSort) -> Result<(), Stuck>
-        requires { HasRoom self.old }
         ensures same_reference { self.new.steps.ghost_name ≡ self.old.steps.ghost_name }
         ensures says { Read self.old self.old.reader.at
             (Parse.bracketed Parse.sort op (skip (drop self.old.reader.at self.old.reader.line.now))
@@ -130,7 +133,6 @@ impl<'a> Recogniser<'a> {
     // An operand: a basic sort, or a container over a sort in brackets.
     #[cycle(bracketed_operand_rest_sort)]
     fn operand(&mut self) -> Result<(), Stuck>
-        requires { HasRoom self.old }
         ensures same_reference { self.new.steps.ghost_name ≡ self.old.steps.ghost_name }
         ensures says { Read self.old (self.old.reader.at + 1)
             (Parse.operand Parse.sort (drop self.old.reader.at self.old.reader.line.now)) self.new result }
@@ -157,7 +159,6 @@ impl<'a> Recogniser<'a> {
     // A sort: operands, and what comes after them.
     #[cycle(bracketed_operand_rest_sort)]
     fn sort(&mut self) -> Result<(), Stuck>
-        requires { HasRoom self.old }
         ensures same_reference { self.new.steps.ghost_name ≡ self.old.steps.ghost_name }
         ensures says { Read self.old (self.old.reader.at + 1)
             (Parse.sort (drop self.old.reader.at self.old.reader.line.now)) self.new result }
@@ -168,7 +169,7 @@ impl<'a> Recogniser<'a> {
 
     // A line: a sort and nothing but spaces after it.
     fn whole_line(&mut self) -> Result<(), Stuck>
-        requires { HasRoom self.old × (self.old.reader.at ≡ 0) × (self.old.count ≡ 0) }
+        requires { (self.old.reader.at ≡ 0) × (self.old.count ≡ 0) }
         ensures same_reference { self.new.steps.ghost_name ≡ self.old.steps.ghost_name }
         ensures says { Read self.old 0 (Parse.line self.old.reader.line.now) self.new result }
         ensures to_its_end { OnOk result (self.new.reader.at ≡ length self.old.reader.line.now) }

@@ -6,7 +6,6 @@ use Rattle.sort_text.specs.Postfix.{postfix, postfixes}
 use Rattle.sort_lexer.specs.declared.Token.{Token}
 use Rattle.sort_lexer.specs.Inner.Lexeme.{lexeme_of}
 use Rattle.sort_recogniser.specs.declared.Stuck.{Stuck}
-use Rattle.sort_recogniser.specs.declared.Recogniser.{Recogniser}
 use Rattle.resolved_sort.specs.Storage.{max_arguments}
 
 -- how recognising ended: the position after what was read and the number of steps; or where the first token stands
@@ -40,34 +39,6 @@ unfoldable pub SaysRest : List ℕ → ℕ → List ℕ → ℕ → ℕ → List
 SaysRest line at old n k out r =
     (front : List ℕ) (ts : Trees) → take n old ≡ front ++ postfixes ts → arity ts ≡ k
     → Says line at (n + (length line - at)) front (rest sort (max_arguments - k) ts (drop at line)) out r
-
--- the steps written, with one for each byte that is left
-abbrev pub needed : Recogniser → ℕ
-needed r = r.count + (length r.reader.line.now - r.reader.at)
-
-abbrev pub HasRoom : Recogniser → Type 0
-HasRoom r = (r.reader.at ≤ length r.reader.line.now) × (needed r ≤ length r.steps.now)
-
--- The line stays, and so does the length of the buffer.
-abbrev pub Same : Recogniser → Recogniser → Type 0
-Same old new = (new.reader.line.now ≡ old.reader.line.now) × (length new.steps.now ≡ length old.steps.now)
-
--- Reading goes on from old to new by P, at lowest or later.
-pub record Read (old : Recogniser) (lowest : ℕ) (P : Parsed) (new : Recogniser) (r : Result (Unit {0}) Stuck)
-    : Type 0 where
-  pub same : Same old new
-  pub says : Says old.reader.line.now lowest (needed old) (take old.count old.steps.now) P new.steps.now
-      (ended new.reader.at new.count r)
-
-pub record ReadRest (old : Recogniser) (k : ℕ) (new : Recogniser) (r : Result (Unit {0}) Stuck) : Type 0 where
-  pub same : Same old new
-  pub says : SaysRest old.reader.line.now old.reader.at old.steps.now old.count k new.steps.now
-      (ended new.reader.at new.count r)
-
--- all but the position
-abbrev pub same_but_place : Recogniser → Recogniser → Type 0
-same_but_place old new =
-    (new.reader.line.now ≡ old.reader.line.now) × (new.steps.now ≡ old.steps.now) × (new.count ≡ old.count)
 
 -- the next token is the one that is expected, and the position is then behind it; or it stands where reading is stuck
 abbrev pub Met : List ℕ → ℕ → Token → ℕ → Result (Unit {0}) Stuck → Type 0
