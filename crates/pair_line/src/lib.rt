@@ -20,6 +20,7 @@ ghost use Rattle.pair_line.specs.Answers.{printed, output_left, pair_left, singl
 use resolved_sort::{Counts, FIXED_SORTS, Refusal, SORT_WORDS, SortId, Steps};
 use sort_bounds::bound;
 use sort_interner::{SortInterner, put_fixed_six};
+use sort_lexer::unread;
 use sort_order::{is_materializable, partial_cmp, widening_distance};
 use sort_reader::read_line;
 use sort_recogniser::recognise;
@@ -27,7 +28,6 @@ use sort_text::{MAX_LINE, Unread};
 use sort_writer::put_text;
 use std::cmp::Ordering;
 use text_out::Out;
-use words::rest;
 
 // Lines of the input that one line of output answers: a pair; or a line alone at the end of the input.
 // kept: two cases by name and no None for the second line, since a line alone is answered by 21 or by what is wrong.
@@ -124,7 +124,7 @@ fn put_unread(why: Unread, line: &[u8], out: &mut Out)
         Unread::Refused(refusal) => out.put_number(refusal.code()),
         Unread::NotASort(at) => {
             out.put_text(b"20:");
-            out.put_text(rest(line, at));
+            out.put_text(unread(line, at));
         }
         Unread::NoRoom => out.put_text(b"15"),
     }
