@@ -28,6 +28,7 @@ use std::process::ExitCode;
 use text_out::Out;
 
 // What ends the program before the input ends.
+// kept: an enum for each program, since what ends it, and its name in the message, differ.
 #[derive(Clone, Copy, Debug, PartialEq, Eq)]
 enum Failed {
     Input,
