@@ -366,8 +366,7 @@ front_stands : (c : ℕ) (fs : List ℕ) (i : ℕ) (O : Makes (List ℕ)) → i 
 unfolding AllStand
 front_stands c fs zero O l s = s
 front_stands c fs (suc i) O l s =
-    let e : get_or fs i 0 ≡ get_or (take c fs) i 0 = sym (get_or-take c fs i 0 l) in
-    (
+    let e : get_or fs i 0 ≡ get_or (take c fs) i 0 = sym (get_or-take c fs i 0 l) in (
       subst (λ (f : ℕ). Stands f O) e s.0,
       subst (λ (f : ℕ). AllStand (take c fs) i (O and-then over_function f)) e (front_stands c fs i (O and-then over_function (get_or fs i 0)) (omega (arith, l)) s.1),
     )
