@@ -7,9 +7,10 @@ ghost use Rattle.resolved_sort.specs.Tree.{primitive};
 ghost use Rattle.resolved_sort.specs.Storage.{kind_flat};
 ghost use Rattle.unification.specs.Full.{refusal_of};
 ghost use Rattle.unification.specs.Nodes.{binding_of, bound_of};
+ghost use Rattle.unification.specs.Resolve.{with_counts};
 ghost use Rattle.unification.specs.Inner.Apart.{TakenApart};
 
-use resolved_sort::{ComplexSort, NoRoom, Refusal, Run, Sort, SortId};
+use resolved_sort::{ComplexSort, Counts, NoRoom, Refusal, Run, Sort, SortId};
 
 // A place, the Rust's InferSortId: an interned sort (below 1,024) or a node. The port has no Resolved node.
 // Nodes, unlike sorts, are not interned: two may denote the same sort, and whether they do is for unify to decide.
@@ -98,6 +99,31 @@ pub struct Lengths {
     pub nodes: u16,
     pub arguments: u16,
     pub variables: u16,
+}
+
+impl Lengths {
+    // The lengths with other sorts in use.
+    pub fn with_counts(self, counts: Counts) -> Lengths
+        ensures { result ≡ with_counts self counts }
+    {
+        Lengths {
+            sorts: counts.sorts,
+            entries: counts.entries,
+            ..self
+        }
+    }
+}
+
+impl From<Lengths> for Counts {
+    ghost from_gives = { λ lengths counts. counts ≡ record { sorts = lengths.sorts; entries = lengths.entries } };
+
+    // The sorts in use.
+    fn from(lengths: Lengths) -> Self {
+        Counts {
+            sorts: lengths.sorts,
+            entries: lengths.entries,
+        }
+    }
 }
 
 // A new sort, or a new node, would exceed the ceilings of document 01: codes 15 and 16.
