@@ -1,7 +1,7 @@
 // Inference nodes in lent storage, and where bindings lead: from merc's unification.rs, shallow_normalize and occurs.
 #![tactic(auto)]
 
-ghost use Rattle.std.specs.Prelude.{◌≡◌, ◌+◌, ◌*◌, ◌<◌, ◌≤◌, length, get_or};
+ghost use Rattle.std.specs.Prelude.{◌≡◌, ◌+◌, ◌*◌, ◌<◌, ◌≤◌, length, get_or, eqb};
 ghost use Rattle.std.proofs.Math.Option.{some};
 ghost use Rattle.resolved_sort.specs.Storage.{function_kind, max_arguments, row_words};
 ghost use Rattle.unification.specs.Inner.Term.{head_of, parts_of};
@@ -82,7 +82,7 @@ pub fn argument(nodes: &[u16], i: u16) -> InferSortId
 }
 
 // The head of a sort: its kind, and the number of arguments of a function, or that of Def and TypeVar.
-// kept: the kind as the word of the row, as in Row.
+// kept: the kind as a word, as in Row.
 #[derive(Clone, Copy, PartialEq, Eq)]
 struct Head {
     kind: u16,
@@ -91,7 +91,9 @@ struct Head {
 
 // What stands at a place: the row of a sort or of a node, and the words in which its arguments stand, from `entries`
 // on.
-// kept: kind is the word of the row, as C lends it, which a check has shown to be a kind.
+// kept: kind is the word of the row. Rows are of sorts or of nodes, with 15 kinds between them; same_head compares the
+// words of two rows, whatever they say, and what else is asked (is it a function, a variable, a container, has it a
+// number) is one comparison each. An enum would be read from each row by a match of 15 cases that nothing here needs.
 #[derive(Clone, Copy)]
 pub struct Row<'a> {
     kind: u16,
@@ -157,11 +159,12 @@ impl<'a> Row<'a> {
         }
     }
 
-    // The kind of the head.
-    pub fn kind(&self) -> u16
-        ensures { (s : Shape) → IsRow self.now s → result ≡ kind_head (head_of s) }
+    // Whether the head is that of a function.
+    pub fn is_function(&self) -> bool
+        ensures { (s : Shape) → IsRow self.now s
+            → result ≡ eqb (kind_head (head_of s)) function_kind }
     {
-        self.kind
+        self.kind == FUNCTION_KIND
     }
 
     // Whether two rows have the same head: constructor, and number of arguments.

@@ -2,7 +2,10 @@
 use mathlib.Core.Path.{◌≡◌, sym, subst}
 use mathlib.Core.List.{List}
 use mathlib.Core.Option.{Option}
+use mathlib.Core.Bool.{Bool}
 use Prim.Native.Nat.{ℕ}
+use lib.Dec.{eqb}
+use Rattle.resolved_sort.specs.Storage.{function_kind}
 use Rattle.unification.specs.declared.Lengths.{Lengths}
 use Rattle.unification.specs.Term.{kind_head}
 use Rattle.unification.specs.Inner.Term.{head_of}
@@ -25,8 +28,9 @@ module _ (A : Arena) (P : Places) (e : (P.sorts.now ≡ A.sorts.now) × (P.nodes
       subst (λ (k : Lengths). Q A.sorts.now A.nodes.now k) e.2
       (subst (λ (ns : List ℕ). Q A.sorts.now ns P.lengths) e.1 (subst (λ (ws : List ℕ). Q ws P.nodes.now P.lengths) e.0 x))
 
-  pub kind_there : (p x : ℕ) → x ≡ kind_head (head_of (graph P p)) → x ≡ kind_head (head_of (graph_of A.sorts.now A.nodes.now A.lengths p))
-  kind_there p x = there (λ ws ns k. x ≡ kind_head (head_of (graph_of ws ns k p)))
+  pub kind_there : (p : ℕ) (r : Bool) → r ≡ eqb (kind_head (head_of (graph P p))) function_kind
+      → r ≡ eqb (kind_head (head_of (graph_of A.sorts.now A.nodes.now A.lengths p))) function_kind
+  kind_there p r = there (λ ws ns k. r ≡ eqb (kind_head (head_of (graph_of ws ns k p))) function_kind)
 
   pub placed_there : (p : ℕ) → Placed A.lengths p → Placed P.lengths p
   placed_there p = subst (λ (k : Lengths). Placed k p) (sym e.2)

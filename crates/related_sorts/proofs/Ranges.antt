@@ -4,17 +4,20 @@
 use mathlib.Core.Path.{◌≡◌, refl, ap, sym, ◌∙◌, subst}
 use mathlib.Core.List.{List}
 use mathlib.Core.Option.{some}
-use mathlib.Core.Bool.{Bool, true}
+use mathlib.Core.Bool.{Bool, true, false}
 use Prim.Native.Nat.{ℕ, suc, ◌+◌, ◌-◌, ◌<◌, ◌≤◌, zero}
 use native.Mathlib.Omega.{arith}
 use native.Mathlib.Numerals.{add-one}
 use native.Mathlib.Decide.{ℕ_discrete}
 use lib.ListN.{length, get_or, set, take}
+use lib.Dec.{eqb}
+use borrow.Author.Tests.{eq-eqb, eqb-true}
 use lib.Seq.{get_or-set_same, get_or-set_other, get_or-take, length-take-le}
 use Rattle.resolved_sort.specs.Tree.{Flat, unit, primitive, def, typevar}
 use Rattle.resolved_sort.specs.declared.Sort.{Sort}
 use Rattle.resolved_sort.specs.declared.ComplexSort.{ComplexSort}
 use Rattle.resolved_sort.specs.Storage.{function_kind, kind_flat, kind_op}
+use Rattle.resolved_sort.proofs.Numbers.{true_not_false}
 use Rattle.unification.specs.declared.Lengths.{Lengths}
 use Rattle.unification.specs.Term.{function_head, Shape, over, kind_head}
 use Rattle.unification.specs.Inner.Term.{head_of, parts_of}
@@ -71,6 +74,13 @@ function_shaped _ (variable_formed v) e = absurd (omega (arith, e))
 function_shaped _ (flat_formed a) e = absurd (flat_kind a e)
 function_shaped _ (container_formed o s) e = absurd (container_kind o e)
 function_shaped _ (function_formed n xs r l h) e = (n, refl)
+
+-- told of a row
+pub function_told : (k : ℕ) (r : Bool) → r ≡ eqb k function_kind → r ≡ true → k ≡ function_kind
+function_told k r e t = eqb-true k function_kind (sym e ∙ t)
+
+pub other_told : (k : ℕ) (r : Bool) → r ≡ eqb k function_kind → r ≡ false → k ≡ function_kind → ⊥
+other_told k r e f i = true_not_false r (e ∙ eq-eqb k function_kind i) f
 
 -- The loop down: the functions noted so far, and what stands at the place that is reached.
 pub record Descending (ws ns bs : List ℕ) (k : Lengths) (p : ℕ) (fs : List ℕ) (end count kind : ℕ) : Type 0 where

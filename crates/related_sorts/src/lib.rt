@@ -19,8 +19,10 @@ ghost use Rattle.related_sorts.specs.Inner.Outcome.{found_op, row, IsFunction, F
 ghost use Rattle.related_sorts.specs.Inner.Ranges.{related_head, over_function, outwards, AllStand};
 ghost use Rattle.related_sorts.specs.Inner.Ranges.{FinalRange, SixThere};
 
-use infer_nodes::{Bindings, Places, counts_of, node, with_counts};
-use resolved_sort::{ARGUMENT_WORDS, ComplexSort, FUNCTION_KIND, ResolvedSort, Sort, SortId};
+use infer_nodes::{Bindings, Places, node};
+use resolved_sort::{
+    ARGUMENT_WORDS, ComplexSort, Counts, FUNCTION_KIND, ResolvedSort, Sort, SortId,
+};
 use sort_interner::{SortInterner, get, put_row, start_of};
 use unification::{
     FIRST_NODE, Full, InferSort, InferSortId, Lengths, MAX_NODE_ENTRIES, MAX_PLACES,
@@ -101,7 +103,7 @@ fn final_range(bindings: &Bindings, id: InferSortId, functions: &mut [u16]) -> L
     let mut count: u16 = 0;
     // kept: how many functions follow one another is not known before, and what is noted comes with what is reached:
     // successors would answer one of them only.
-    while row.kind() == FUNCTION_KIND {
+    while row.is_function() {
         functions[count as usize] = range.0;
         count += 1;
         let last = row.part_count() - 1;
@@ -212,10 +214,10 @@ impl Arena<'_> {
         };
         let mut interner = SortInterner {
             words: &mut *self.sorts,
-            counts: counts_of(self.lengths),
+            counts: Counts::from(self.lengths),
         };
         let id = interner.generic(related_op, subsort)?;
-        self.lengths = with_counts(self.lengths, interner.counts);
+        self.lengths = self.lengths.with_counts(interner.counts);
         Ok(Listed::of(&[InferSortId::from(id)]))
     }
 
@@ -369,7 +371,7 @@ impl Arena<'_> {
             (strict_related up (binds_of binds.now self.old.lengths.variables) id.0 (world self.old)) }
     {
         let end = self.bindings(binds).shallow_normalize(id);
-        if self.places().row(end).kind() == FUNCTION_KIND {
+        if self.places().row(end).is_function() {
             return self.related_function(binds, end, up);
         }
         self.related_head(end, up)

@@ -12,7 +12,7 @@ ghost use Rattle.unification.specs.Solutions.{terms_at};
 ghost use Rattle.infer_nodes.specs.Inner.Bound.{RunPlaced};
 ghost use Rattle.std.proofs.Math.Option.{some};
 
-use infer_nodes::{Bindings, Places, argument, node, with_counts};
+use infer_nodes::{Bindings, Places, argument, node};
 use resolved_sort::{ARGUMENT_WORDS, NoRoom, Run, SortId};
 use sort_interner::SortInterner;
 use unification::{InferSort, InferSortId, Lengths, Place};
@@ -42,7 +42,7 @@ impl Resolver<'_> {
         let places = Places {
             sorts: sorts.words,
             nodes: self.nodes,
-            lengths: with_counts(self.lengths, sorts.counts),
+            lengths: self.lengths.with_counts(sorts.counts),
         };
         let bindings = Bindings {
             places,

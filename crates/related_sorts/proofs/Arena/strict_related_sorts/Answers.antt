@@ -1,5 +1,5 @@
 -- By the head at the end of the place. Assumes nothing.
-use Rattle.std.proofs.Common.{◌∙◌}
+use Rattle.std.proofs.Common.{refl, ◌∙◌}
 use Rattle.related_sorts.proofs.Lent.{end_there, kind_there, placed_there}
 use Rattle.related_sorts.proofs.Ends as ends
 use Rattle.related_sorts.proofs.Ranges as law
@@ -13,11 +13,11 @@ related_function-requires c = (
   c.requires.0,
   (ends.end_placed c.args.self.now.sorts.now c.args.self.now.nodes.now c.args.binds.now c.args.self.now.lengths c.requires.0 c.args.up c.args.id.0 _ c.requires.1 (end_there c.args.self.now c.args.binds.now c.bindings.result c.bindings.ensures _ _ c.shallow_normalize-end.ensures)),
   c.requires.2,
-  law.function_by_kind c.args.self.now.sorts.now c.args.self.now.nodes.now c.args.binds.now c.args.self.now.lengths c.requires.0 _ _ (ends.end_placed c.args.self.now.sorts.now c.args.self.now.nodes.now c.args.binds.now c.args.self.now.lengths c.requires.0 c.args.up c.args.id.0 _ c.requires.1 (end_there c.args.self.now c.args.binds.now c.bindings.result c.bindings.ensures _ _ c.shallow_normalize-end.ensures)) (kind_there c.args.self.now c.places.result c.places.ensures _ _ (c.kind.ensures _ c.row.ensures)) c.if-kind-eq-FUNCTION_KIND.true,
+  law.function_by_kind c.args.self.now.sorts.now c.args.self.now.nodes.now c.args.binds.now c.args.self.now.lengths c.requires.0 _ _ (ends.end_placed c.args.self.now.sorts.now c.args.self.now.nodes.now c.args.binds.now c.args.self.now.lengths c.requires.0 c.args.up c.args.id.0 _ c.requires.1 (end_there c.args.self.now c.args.binds.now c.bindings.result c.bindings.ensures _ _ c.shallow_normalize-end.ensures)) refl (law.function_told _ _ (kind_there c.args.self.now c.places.result c.places.ensures _ _ (c.is_function.ensures _ c.row.ensures)) c.if-is_function.true),
 )
 
-pub returns-then-kind-eq-FUNCTION_KIND-clause-lists : goal.returns-then-kind-eq-FUNCTION_KIND-clause-lists
-returns-then-kind-eq-FUNCTION_KIND-clause-lists c =
+pub returns-then-is_function-clause-lists : goal.returns-then-is_function-clause-lists
+returns-then-is_function-clause-lists c =
     c.related_function.ensures.lists ∙ (ends.end_answers c.args.self.now.sorts.now c.args.self.now.nodes.now c.args.binds.now c.args.self.now.lengths c.requires.0 c.args.up c.args.id.0 _ c.requires.1 (end_there c.args.self.now c.args.binds.now c.bindings.result c.bindings.ensures _ _ c.shallow_normalize-end.ensures))
 
 pub related_head-requires : goal.related_head-requires
@@ -29,5 +29,5 @@ returns-clause-lists c =
     ∙ (law.by_head c.args.self.now.sorts.now c.args.self.now.nodes.now c.args.binds.now c.args.self.now.lengths c.requires.0 c.args.up _
     (ends.end_placed c.args.self.now.sorts.now c.args.self.now.nodes.now c.args.binds.now c.args.self.now.lengths c.requires.0 c.args.up c.args.id.0 _ c.requires.1 (end_there c.args.self.now c.args.binds.now c.bindings.result c.bindings.ensures _ _ c.shallow_normalize-end.ensures))
     (ends.end_of_end c.args.self.now.sorts.now c.args.self.now.nodes.now c.args.binds.now c.args.self.now.lengths c.requires.0 c.args.up c.args.id.0 _ c.requires.1 (end_there c.args.self.now c.args.binds.now c.bindings.result c.bindings.ensures _ _ c.shallow_normalize-end.ensures))
-    (λ e. c.if-kind-eq-FUNCTION_KIND.false ((kind_there c.args.self.now c.places.result c.places.ensures _ _ (c.kind.ensures _ c.row.ensures)) ∙ e))
+    (law.other_told _ _ (kind_there c.args.self.now c.places.result c.places.ensures _ _ (c.is_function.ensures _ c.row.ensures)) c.if-is_function.false)
     ∙ ends.end_answers c.args.self.now.sorts.now c.args.self.now.nodes.now c.args.binds.now c.args.self.now.lengths c.requires.0 c.args.up c.args.id.0 _ c.requires.1 (end_there c.args.self.now c.args.binds.now c.bindings.result c.bindings.ensures _ _ c.shallow_normalize-end.ensures))
