@@ -1,38 +1,44 @@
--- The scan for a row, one turn after another. Assumes nothing.
-use mathlib.Core.Path.{◌≡◌, sym, ◌∙◌}
+-- What `find` answers over the numbers of the rows is the first row that is the same. Assumes nothing.
+use mathlib.Core.Path.{◌≡◌, refl, ap, ◌∙◌}
 use mathlib.Core.Bool.{Bool, true, false, cond}
 use mathlib.Core.List.{List}
-use Prim.Native.Nat.{ℕ, suc, ◌+◌, ◌-◌, ◌<◌, ◌≤◌}
+use Prim.Native.Nat.{ℕ, zero, suc, ◌+◌}
 use native.Mathlib.Omega.{arith}
-use native.Mathlib.Nat.{sub-zero}
+use borrow.Author.Tests.{lt-ltb, le-ltb}
+use lib.Dec.{ltb}
+use Rattle.std.specs.Prelude.{Option, Some, None, map}
+use Rattle.std.specs.List.{find, range_with_len}
+use Rattle.std.specs.Option.{option_map}
+use Rattle.resolved_sort.specs.declared.SortId.{SortId}
 use Rattle.resolved_sort.specs.Storage.{Row}
 use Rattle.resolved_sort.specs.Rows.{first_from, find_row}
-use Rattle.std.specs.Prelude.{Some, None}
-use borrow.Author.Tests.{lt-ltb, le-ltb}
 use Rattle.sort_interner.specs.Inner.Tests.{is_row, found_row}
 
-first_from_suc : (p : ℕ → Bool) (m k i : ℕ) → m ≡ suc k → first_from p m i ≡ cond (p i) i (first_from p k (i + 1))
+abbrev pub as_sort : ℕ → SortId
+as_sort i = record { 0 = i }
+
+abbrev pub is_row_of : List ℕ → Row → SortId → Bool
+is_row_of ws r id = is_row ws r id.0
+
+-- the number f, where it is below a bound
+abbrev below : ℕ → ℕ → Option SortId
+below m f = cond (ltb f m) (Some (as_sort f)) None
+
+one_more : (b : Bool) (n i f : ℕ) (o : Option SortId) → o ≡ below (i + 1 + n) f
+    → cond b (Some (as_sort i)) o ≡ below (i + suc n) (cond b i f)
+one_more true n i f o e = rw (lt-ltb i (i + suc n) (omega arith)) refl
+one_more false n i f o e = let z : i + 1 + n ≡ i + suc n = omega arith in e ∙ ap (λ m. below m f) z
+
+find_is_first : (ws : List ℕ) (r : Row) (n i : ℕ)
+    → find (is_row_of ws r) (map as_sort (range_with_len i n)) ≡ below (i + n) (first_from (is_row ws r) n i)
 unfolding first_from
-first_from_suc p m k i e = rw e
+find_is_first ws r zero i = rw (le-ltb i (i + 0) (omega arith)) refl
+find_is_first ws r (suc n) i = one_more (is_row ws r i) n i (first_from (is_row ws r) n (i + 1)) _ (find_is_first ws r n (i + 1))
 
-pub found_from_start : (ws : List ℕ) (r : Row) (n : ℕ) → find_row ws n r ≡ first_from (is_row ws r) (n - 0) 0
+pub found_by_find : (ws : List ℕ) (r : Row) (n : ℕ) → find (is_row_of ws r) (map as_sort (range_with_len 0 n)) ≡ found_row ws n r
 unfolding find_row is_row
-found_from_start ws r n = rw sub-zero
+found_by_find ws r n = let z : 0 + n ≡ n = omega arith in find_is_first ws r n 0 ∙ ap (λ m. below m (first_from (is_row ws r) n 0)) z
 
-module _ (ws : List ℕ) (r : Row) (n i : ℕ) (inv : find_row ws n r ≡ first_from (is_row ws r) (n - i) i) where
-  pub found_none : i ≤ n → n ≤ i → None ≡ found_row ws n r
-  unfolding first_from
-  found_none h k =
-      let z : n - i ≡ 0 = omega arith in
-      let q : i ≡ find_row ws n r = sym (rw z at inv) in
-      rw (← q, le-ltb i n k)
-
-  module _ (h : i < n) (b : Bool) (e : b ≡ is_row ws r i) where
-    turn : find_row ws n r ≡ cond b i (first_from (is_row ws r) (n - (i + 1)) (i + 1))
-    turn = rw e (inv ∙ first_from_suc (is_row ws r) (n - i) (n - (i + 1)) i (omega arith))
-
-    pub found_here : b ≡ true → Some (record { 0 = i }) ≡ found_row ws n r
-    found_here f = let q : i ≡ find_row ws n r = sym (rw f at turn) in rw (← q, lt-ltb i n h)
-
-    pub found_from_next : b ≡ false → find_row ws n r ≡ first_from (is_row ws r) (n - (i + 1)) (i + 1)
-    found_from_next f = rw f at turn
+pub as_it_is : (o : Option SortId) → o ≡ option_map (λ x. x) o
+as_it_is None = refl
+as_it_is (Some x) = refl

@@ -156,12 +156,7 @@ fn same_run(words: &[u16], a: Run, b: Run) -> bool
     if a.count != b.count {
         return false;
     }
-    for k in 0..a.count {
-        if entry(words, a, k) != entry(words, b, k) {
-            return false;
-        }
-    }
-    true
+    (0..a.count).all(|k| entry(words, a, k) == entry(words, b, k))
 }
 
 // Whether the rows of two sorts are the same: kind, part and the contents of the runs. Words not looked at do not
@@ -175,19 +170,14 @@ pub fn same_rows(sorts: &[u16], lhs: SortId, rhs: SortId) -> bool
 }
 
 // Whether a run has these sorts as its entries, and no more.
-// kept: beside same_run: one over a closure for the k-th entry would need a contract of what the closure answers.
+// kept: beside same_run: both are a test of the lengths and one `all`; one over the k-th entry would be longer than either.
 fn has_args(words: &[u16], run: Run, args: &[SortId]) -> bool
     ensures { result ≡ same_words (entries_of words.now run.start run.count) (sort_numbers args.now) }
 {
     if (run.count as usize) != args.len() {
         return false;
     }
-    for k in 0..run.count {
-        if entry(words, run, k) != args[k as usize] {
-            return false;
-        }
-    }
-    true
+    (0..run.count).all(|k| entry(words, run, k) == args[k as usize])
 }
 
 // Whether a sort's row is this one. Words not looked at do not count.
@@ -290,12 +280,9 @@ impl<'a> SortInterner<'a> {
             ≡ found_row self.now.words.now self.now.counts.sorts
             (given_row row.now.kind row.now.part row.now.args.now) }
     {
-        for i in 0..self.counts.sorts {
-            if is_row(self.words, SortId(i), row) {
-                return Some(SortId(i));
-            }
-        }
-        None
+        (0..self.counts.sorts)
+            .map(SortId)
+            .find(|&id| is_row(self.words, id, row))
     }
 
     // The k-th argument of a function with this domain.

@@ -1,16 +1,19 @@
--- A row that is the same is the first such, a row that is not leaves the rest, and after the last there is none.
--- Assumes nothing.
+-- The first sort that `find` answers is the first whose row is the same. Assumes nothing.
+use Rattle.std.proofs.Common.{of_calls, arith, ◌∙◌}
+use Rattle.std.proofs.lemmas.Iterator.{YieldsList-from_range, YieldsList-from_map}
+use Rattle.std.proofs.lemmas.Iterator.Search.{find_from_yields_List}
+use Rattle.sort_interner.specs.Inner.Tests.{given_row, is_row}
 use Rattle.sort_interner.proofs.Find as law
 use Rattle.sort_interner.proofs.SortInterner.find_row.Goals as goal
 
-pub loop-i-init : goal.loop-i-init
-loop-i-init c = law.found_from_start _ _ _
-
-pub returns-then-is_row : goal.returns-then-is_row
-returns-then-is_row c = law.found_here _ _ _ _ c.loop-i.invariant c.loop-i-test.true _ c.is_row.ensures c.if-is_row.true
-
-pub loop-i-preserved : goal.loop-i-preserved
-loop-i-preserved c = law.found_from_next _ _ _ _ c.loop-i.invariant c.loop-i-test.true _ c.is_row.ensures c.if-is_row.false
-
 pub returns : goal.returns
-returns c = law.found_none _ _ _ _ c.loop-i.invariant c.loop-i.auto.i-end c.loop-i-test.false
+unfolding is_row
+returns c =
+    let n = c.args.self.now.counts.sorts in
+    let r = given_row c.args.row.now.kind c.args.row.now.part c.args.row.now.args.now in
+    law.as_it_is c.find.result
+    ∙ find_from_yields_List (law.is_row_of c.args.self.now.words.now r) _ _ c.find.result c.find.ensures.ran
+    (YieldsList-from_map _ law.as_sort (YieldsList-from_range 0 n n c.map.ensures.source (omega arith)) c.map.ensures.closure
+    (λ x y q k. search of_calls))
+    (λ x b q k. search of_calls)
+    ∙ law.found_by_find c.args.self.now.words.now r n
