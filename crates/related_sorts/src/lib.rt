@@ -4,12 +4,11 @@
 #![tactic(auto)]
 
 ghost use Rattle.std.specs.Prelude.{◌≡◌, true, false, ◌+◌, ◌<◌, ◌≤◌, length, take};
-ghost use Rattle.std.proofs.lemmas.List.Edits.{sets};
 ghost use Rattle.resolved_sort.specs.Tree.{primitive};
 ghost use Rattle.resolved_sort.specs.Storage.{max_sorts, max_arguments, row_at};
 ghost use Rattle.resolved_sort.specs.Rows.{Checked};
 ghost use Rattle.unification.specs.Inner.Term.{parts_of};
-ghost use Rattle.unification.specs.Nodes.{max_places, node_entries_at, binds_of, node_at};
+ghost use Rattle.unification.specs.Nodes.{max_places, full_nodes, binds_of, node_at};
 ghost use Rattle.unification.specs.Checked.{graph_of, Placed};
 ghost use Rattle.unification.specs.Related.{related_container};
 ghost use Rattle.unification.specs.Making.{push_node, related_over, push_functions, related_places};
@@ -28,7 +27,7 @@ use unification::{
     FIRST_NODE, Full, InferSort, InferSortId, Lengths, MAX_NODE_ENTRIES, MAX_PLACES,
     NODE_ENTRIES_AT, NODE_NUMBERS, NodeId, Place,
 };
-use words::put;
+use words::copy;
 
 mod listing;
 
@@ -113,23 +112,13 @@ fn final_range(bindings: &Bindings, id: InferSortId, functions: &mut [u16]) -> L
     Last { count, range }
 }
 
-// These words stored as the argument entries from the e-th on.
-// kept: beside put_sorts of sort_interner, which stores SortIds: a slice of these is no slice of words.
-fn put_arguments(nodes: &mut [u16], e: u16, arguments: &[u16])
-    requires { length arguments.now ≤ max_arguments }
-    ensures { nodes.new ≡ sets nodes.old (node_entries_at + e) arguments.now }
-{
-    for (i, &argument) in arguments.iter().enumerate() {
-        put(nodes, NODE_ENTRIES_AT + (e as usize) + i, argument);
-    }
-}
-
 // The sorts and nodes as they grow, and how much of them is in use: what is made is appended.
 #[derive(Drop)]
 pub struct Arena<'a> {
     pub sorts: &'a mut [u16],
     pub nodes: &'a mut [u16],
     pub lengths: Lengths,
+    pub ghost room: { full_nodes ≤ length nodes.now },
 }
 
 impl Arena<'_> {
@@ -171,7 +160,13 @@ impl Arena<'_> {
             return Err(Full::Nodes);
         }
         put_row(self.nodes, n, kind, part.0, start_of(kind, e), count as u16);
-        put_arguments(self.nodes, e, arguments);
+        copy(
+            self.nodes,
+            NODE_ENTRIES_AT + e as usize,
+            arguments,
+            0,
+            count,
+        );
         self.lengths.nodes = n + 1;
         self.lengths.arguments = e + count as u16;
         Ok(InferSortId(FIRST_NODE + n))
@@ -212,10 +207,9 @@ impl Arena<'_> {
         let Some(related_op) = related_container(op, up) else {
             return Ok(Listed::of(&[]));
         };
-        let mut interner = SortInterner {
-            words: &mut *self.sorts,
-            counts: Counts::from(self.lengths),
-        };
+        let counts = Counts::from(self.lengths);
+        let words = &mut *self.sorts;
+        let mut interner = SortInterner { words, counts };
         let id = interner.generic(related_op, subsort)?;
         self.lengths = self.lengths.with_counts(interner.counts);
         Ok(Listed::of(&[InferSortId::from(id)]))

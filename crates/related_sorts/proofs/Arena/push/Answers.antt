@@ -1,4 +1,7 @@
 -- One more row where there is room. Assumes nothing.
+use Rattle.std.proofs.Common.{ap, ◌∙◌}
+use Rattle.std.proofs.lemmas.List.Edits.{sets}
+use Rattle.std.proofs.Math.Seq.{take-length}
 use Rattle.related_sorts.proofs.Laws as law
 use Rattle.related_sorts.proofs.Arena.push.Goals as goal
 
@@ -10,4 +13,4 @@ returns-then-e-count-gt-MAX_NODE_ENTRIES-clause-pushed c = law.no_entries c.args
 
 pub returns-clause-pushed : goal.returns-clause-pushed
 returns-clause-pushed c = law.node_made c.args.self.now.sorts.now c.args.self.now.nodes.now c.args.self.now.lengths c.args.kind c.args.part.0 c.args.arguments.now c.if-n-ge-NODE_NUMBERS.false c.if-e-count-gt-MAX_NODE_ENTRIES.false
-    _ c.start_of.ensures _ _ c.put_row.ensures c.put_arguments.ensures
+    _ c.start_of.ensures _ _ c.put_row.ensures (c.copy.ensures ∙ ap (sets _ _) (take-length c.args.arguments.now))
