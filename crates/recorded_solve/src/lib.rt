@@ -13,10 +13,11 @@
 // its ceiling, and after them the eleven numbers of the line `L`.
 #![tactic(auto)]
 
-ghost use Rattle.std.specs.Prelude.{◌≡◌, ◌+◌, ◌≤◌, length, IfSome};
+ghost use Rattle.std.specs.Prelude.{◌≡◌, ◌+◌, ◌<◌, ◌≤◌, length, IfSome, MatchResult};
 ghost use Rattle.replay.specs.Inner.Lines.{near_enough};
 ghost use Rattle.replay.specs.Inner.Numbers.{max_fields};
-ghost use Rattle.recorded_solve.specs.Inner.Slices.{held_counts_at, slice_start, count_held, counts_held};
+ghost use Rattle.recorded_solve.specs.Inner.Slices.{held_counts_at, slice_start, slice_number, last_slice};
+ghost use Rattle.recorded_solve.specs.Inner.Slices.{count_number, count_held, counts_held};
 ghost use Rattle.recorded_solve.specs.Inner.Slices.{call_held_in, slices_kept, slices_held, packed_of};
 ghost use Rattle.recorded_solve.specs.Inner.Outcome.{solved};
 ghost use Rattle.recorded_solve.specs.Inner.Lines.{letter_of, start_in, compared_from, recorded_of, solve_started};
@@ -65,17 +66,51 @@ const TYPING_ROOM: usize = 1536;
 
 const CHOICES_ROOM: usize = 512;
 
-// The numbers of a line: how many counts a list has, the last slice, how far into the slices a word can be, and the
-// largest code and count of what is handed out that a packed answer has.
+// The numbers of a line: how many counts a list has, how far into the slices a word can be, and the largest code and
+// count of what is handed out that a packed answer has.
 const COUNTS: usize = 11;
-
-const LAST_SLICE: u64 = 11;
 
 const SLICE_WORDS: u64 = 34048;
 
 const MOST_CODE: u64 = 255;
 
 const MOST_HANDED: u64 = 4095;
+
+// The slices of a list, in the order in which they stand and in which a line numbers them.
+#[derive(Clone, Copy, Debug, PartialEq, Eq)]
+pub enum Slice {
+    Sorts,
+    Nodes,
+    Bindings,
+    Exprs,
+    Names,
+    Constraints,
+    Overloads,
+    Sources,
+    Typing,
+    Measure,
+    Choices,
+    Scratch,
+}
+
+// A number of a line that is no slice's.
+#[derive(Clone, Copy, Debug, PartialEq, Eq)]
+pub struct NoSlice(pub u64);
+
+// The counts of a list, in the order in which they stand.
+#[derive(Clone, Copy, Debug, PartialEq, Eq)]
+pub enum Count {
+    Sorts,
+    Entries,
+    Nodes,
+    Arguments,
+    Variables,
+    Exprs,
+    Names,
+    Constraints,
+    Overloads,
+    Sources,
+}
 
 // What a line says by its letter.
 #[derive(Clone, Copy, Debug, PartialEq, Eq)]
@@ -121,28 +156,53 @@ impl From<u8> for Letter {
     }
 }
 
-// The word at which a slice starts, and past the last one the first count.
-#[tactic(auto, unfolding(crate::specs::Inner::Slices::slice_start))]
-fn start_of(slice: usize) -> usize
-    requires { slice ≤ 12 }
-    ensures { (result ≡ slice_start slice) × (result ≤ held_counts_at) }
-{
-    let starts = [
-        0usize,
-        NODES_AT,
-        BINDS_AT,
-        EXPRS_AT,
-        NAMES_AT,
-        CONSTRAINTS_AT,
-        OVERLOADS_AT,
-        SOURCES_AT,
-        TYPING_AT,
-        MEASURE_AT,
-        CHOICES_AT,
-        SCRATCH_AT,
-        COUNTS_AT,
-    ];
-    starts[slice]
+impl TryFrom<u64> for Slice {
+    type Error = NoSlice;
+
+    ghost try_from_gives = { λ number slice. MatchResult slice (λ s. slice_number s ≡ number) (λ _. last_slice < number) };
+
+    fn try_from(number: u64) -> Result<Self, NoSlice> {
+        match number {
+            0 => Ok(Slice::Sorts),
+            1 => Ok(Slice::Nodes),
+            2 => Ok(Slice::Bindings),
+            3 => Ok(Slice::Exprs),
+            4 => Ok(Slice::Names),
+            5 => Ok(Slice::Constraints),
+            6 => Ok(Slice::Overloads),
+            7 => Ok(Slice::Sources),
+            8 => Ok(Slice::Typing),
+            9 => Ok(Slice::Measure),
+            10 => Ok(Slice::Choices),
+            11 => Ok(Slice::Scratch),
+            _ => Err(NoSlice(number)),
+        }
+    }
+}
+
+impl Slice {
+    // The word at which a slice starts, and the one past its last.
+    #[tactic(auto, unfolding(crate::specs::Inner::Slices::slice_start))]
+    fn ends(self) -> (usize, usize)
+        ensures start { result.0 ≡ slice_start (slice_number self) }
+        ensures end { result.1 ≡ slice_start (slice_number self + 1) }
+        ensures within { (result.0 ≤ held_counts_at) × (result.1 ≤ held_counts_at) }
+    {
+        match self {
+            Slice::Sorts => (0, NODES_AT),
+            Slice::Nodes => (NODES_AT, BINDS_AT),
+            Slice::Bindings => (BINDS_AT, EXPRS_AT),
+            Slice::Exprs => (EXPRS_AT, NAMES_AT),
+            Slice::Names => (NAMES_AT, CONSTRAINTS_AT),
+            Slice::Constraints => (CONSTRAINTS_AT, OVERLOADS_AT),
+            Slice::Overloads => (OVERLOADS_AT, SOURCES_AT),
+            Slice::Sources => (SOURCES_AT, TYPING_AT),
+            Slice::Typing => (TYPING_AT, MEASURE_AT),
+            Slice::Measure => (MEASURE_AT, CHOICES_AT),
+            Slice::Choices => (CHOICES_AT, SCRATCH_AT),
+            Slice::Scratch => (SCRATCH_AT, COUNTS_AT),
+        }
+    }
 }
 
 // Where the words of a line stand, after the number of a slice and of a word of it, where they are inside the slice.
@@ -155,14 +215,11 @@ fn start_of_words(numbers: &[u64]) -> Option<usize>
     let &[slice, at, ref words @ ..] = numbers else {
         return None;
     };
-    if LAST_SLICE < slice || SLICE_WORDS < at {
+    let (start, end) = Slice::try_from(slice).ok()?.ends();
+    if SLICE_WORDS < at || end < start + (at as usize) + words.len() {
         return None;
     }
-    let start = start_of(slice as usize) + (at as usize);
-    if start_of((slice as usize) + 1) < start + words.len() {
-        return None;
-    }
-    Some(start)
+    Some(start + (at as usize))
 }
 
 // Words, from a word on, compared with those recorded: all agree, or the first that is another.
@@ -201,11 +258,10 @@ fn recorded(numbers: &[u64]) -> Option<u64>
 }
 
 // A count of the list.
-fn count_at(given: &[u16], i: usize) -> usize
-    requires { i ≤ 9 }
-    ensures { result ≡ count_held given.now i }
+fn count_of(given: &[u16], count: Count) -> usize
+    ensures { result ≡ count_held given.now (count_number count) }
 {
-    word(given, COUNTS_AT + i) as usize
+    word(given, COUNTS_AT + count as usize) as usize
 }
 
 // The counts of the list, and its default sort.
@@ -213,16 +269,16 @@ fn counts_of(given: &[u16]) -> Given
     ensures { result ≡ counts_held given.now }
 {
     Given {
-        sorts: count_at(given, 0),
-        entries: count_at(given, 1),
-        nodes: count_at(given, 2),
-        arguments: count_at(given, 3),
-        variables: count_at(given, 4),
-        exprs: count_at(given, 5),
-        names: count_at(given, 6),
-        constraints: count_at(given, 7),
-        overloads: count_at(given, 8),
-        sources: count_at(given, 9),
+        sorts: count_of(given, Count::Sorts),
+        entries: count_of(given, Count::Entries),
+        nodes: count_of(given, Count::Nodes),
+        arguments: count_of(given, Count::Arguments),
+        variables: count_of(given, Count::Variables),
+        exprs: count_of(given, Count::Exprs),
+        names: count_of(given, Count::Names),
+        constraints: count_of(given, Count::Constraints),
+        overloads: count_of(given, Count::Overloads),
+        sources: count_of(given, Count::Sources),
         default: SortId(word(given, DEFAULT_AT)),
     }
 }

@@ -10,15 +10,12 @@ use Rattle.recorded_solve.specs.declared.Letter.{Letter}
 use Rattle.recorded_solve.specs.declared.Letter.TheVariants.{List as NewList, Gives, Asks, Left, Other}
 use Rattle.recorded_solve.specs.declared.RecordedSolve.{RecordedSolve}
 use Rattle.recorded_solve.specs.Inner.Outcome.{solved}
-use Rattle.recorded_solve.specs.Inner.Slices.{held_counts_at, slice_start, call_held, left_held}
+use Rattle.recorded_solve.specs.Inner.Slices.{held_counts_at, slice_start, last_slice, call_held, left_held}
 
--- how many counts a list has, the last slice, all words held, and the largest code and count of what is handed out that
+-- how many counts a list has, all words held, and the largest code and count of what is handed out that
 -- a packed answer has
 abbrev pub counts : ℕ
 counts = 11
-
-abbrev pub last_slice : ℕ
-last_slice = 11
 
 abbrev pub held_words : ℕ
 held_words = 34059

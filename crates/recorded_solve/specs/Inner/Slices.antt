@@ -5,6 +5,8 @@ use Rattle.inference.specs.SolveChecks.{Call}
 use Rattle.words.specs.Words.{part}
 use Rattle.solve_checks.specs.declared.Given.{Given}
 use Rattle.solve_outputs.specs.Packed.{PackedSolve, packed_solve}
+use Rattle.recorded_solve.specs.declared.Slice.{Slice}
+use Rattle.recorded_solve.specs.declared.Count.{Count}
 use Rattle.recorded_solve.specs.declared.Slices.{Slices}
 
 -- Where each slice starts: sorts, nodes, bindings, places of expressions, base names, constraints, overloads, sources,
@@ -54,8 +56,39 @@ slice_starts =
 unfoldable pub slice_start : ℕ → ℕ
 slice_start k = get_or slice_starts k 0
 
+-- the slices by the number that a line says, and the last one
+abbrev pub slice_number : Slice → ℕ
+slice_number Slice.Sorts = 0
+slice_number Slice.Nodes = 1
+slice_number Slice.Bindings = 2
+slice_number Slice.Exprs = 3
+slice_number Slice.Names = 4
+slice_number Slice.Constraints = 5
+slice_number Slice.Overloads = 6
+slice_number Slice.Sources = 7
+slice_number Slice.Typing = 8
+slice_number Slice.Measure = 9
+slice_number Slice.Choices = 10
+slice_number Slice.Scratch = 11
+
+abbrev pub last_slice : ℕ
+last_slice = 11
+
 abbrev pub slice_of : ℕ → List ℕ → List ℕ
 slice_of k ws = part (slice_start k) (slice_start (k + 1) - slice_start k) ws
+
+-- the counts by their order
+abbrev pub count_number : Count → ℕ
+count_number Count.Sorts = 0
+count_number Count.Entries = 1
+count_number Count.Nodes = 2
+count_number Count.Arguments = 3
+count_number Count.Variables = 4
+count_number Count.Exprs = 5
+count_number Count.Names = 6
+count_number Count.Constraints = 7
+count_number Count.Overloads = 8
+count_number Count.Sources = 9
 
 abbrev pub count_held : List ℕ → ℕ → ℕ
 count_held ws i = get_or ws (held_counts_at + i) 0
