@@ -23,7 +23,10 @@ ghost use Rattle.recorded_solve.specs.Inner.Outcome.{solved};
 ghost use Rattle.recorded_solve.specs.Inner.Lines.{letter_of, start_in, compared_from, recorded_of, solve_started};
 ghost use Rattle.recorded_solve.specs.Inner.Lines.{reply, ask_of, begin_line, give_line, compare_line, ask_line};
 
-use inference::{MAX_COMPONENTS, SCRATCH_WORDS};
+use inference::{
+    CHOICE_WORDS, CONSTRAINT_WORDS, MAX_COMPONENTS, MAX_CONSTRAINTS, MAX_EXPRS, MAX_OVERLOADS,
+    MAX_SOURCES, NAME_WORDS, OVERLOAD_WORDS, SCRATCH_WORDS, TYPING_WORDS,
+};
 use replay::{Recorded, Verdict, store};
 use resolved_sort::{SORT_WORDS, SortId};
 use solve_checks::Given;
@@ -33,44 +36,44 @@ use words::{BIT_8, BIT_24, BIT_40, BIT_52, MOST_WORD, copied, copy, word};
 
 // Where the slices stand in the words held, after the sorts, each at its ceiling (base names, which have none, have as
 // many rows as there are expressions); and after the scratch the counts, the last of which is the default sort.
-const NODES_AT: usize = 8192;
+const NODES_AT: usize = SORT_WORDS;
 
-const BINDS_AT: usize = 20480;
+const BINDS_AT: usize = NODES_AT + NODE_WORDS;
 
-const EXPRS_AT: usize = 20992;
+const EXPRS_AT: usize = BINDS_AT + MAX_VARS;
 
-const NAMES_AT: usize = 21504;
+const NAMES_AT: usize = EXPRS_AT + MAX_EXPRS;
 
-const CONSTRAINTS_AT: usize = 23040;
+const CONSTRAINTS_AT: usize = NAMES_AT + NAME_WORDS * MAX_EXPRS;
 
-const OVERLOADS_AT: usize = 24320;
+const OVERLOADS_AT: usize = CONSTRAINTS_AT + CONSTRAINT_WORDS * MAX_CONSTRAINTS;
 
-const SOURCES_AT: usize = 27392;
+const SOURCES_AT: usize = OVERLOADS_AT + OVERLOAD_WORDS * MAX_OVERLOADS;
 
-const TYPING_AT: usize = 27648;
+const TYPING_AT: usize = SOURCES_AT + MAX_SOURCES;
 
-const MEASURE_AT: usize = 29184;
+const MEASURE_AT: usize = TYPING_AT + TYPING_ROOM;
 
-const CHOICES_AT: usize = 29440;
+const CHOICES_AT: usize = MEASURE_AT + MAX_COMPONENTS;
 
-const SCRATCH_AT: usize = 29952;
+const SCRATCH_AT: usize = CHOICES_AT + CHOICES_ROOM;
 
-const COUNTS_AT: usize = 34048;
+const COUNTS_AT: usize = SCRATCH_AT + SCRATCH_WORDS;
 
-const DEFAULT_AT: usize = 34058;
+const DEFAULT_AT: usize = COUNTS_AT + 10;
 
-const HELD_WORDS: usize = 34059;
+const HELD_WORDS: usize = COUNTS_AT + COUNTS;
 
 // The words for the typing and for the choices.
-const TYPING_ROOM: usize = 1536;
+const TYPING_ROOM: usize = TYPING_WORDS * MAX_EXPRS;
 
-const CHOICES_ROOM: usize = 512;
+const CHOICES_ROOM: usize = CHOICE_WORDS * MAX_CONSTRAINTS;
 
 // The numbers of a line: how many counts a list has, how far into the slices a word can be, and the largest code and
 // count of what is handed out that a packed answer has.
 const COUNTS: usize = 11;
 
-const SLICE_WORDS: u64 = 34048;
+const SLICE_WORDS: u64 = COUNTS_AT as u64;
 
 const MOST_CODE: u64 = 255;
 
@@ -113,6 +116,7 @@ pub enum Count {
 }
 
 // What a line says by its letter.
+// kept: Other and no None: a byte that begins no line of the form is a line of its own, whose answer is NotOfForm.
 #[derive(Clone, Copy, Debug, PartialEq, Eq)]
 pub enum Letter {
     List,
@@ -159,7 +163,8 @@ impl From<u8> for Letter {
 impl TryFrom<u64> for Slice {
     type Error = NoSlice;
 
-    ghost try_from_gives = { λ number slice. MatchResult slice (λ s. slice_number s ≡ number) (λ _. last_slice < number) };
+    ghost try_from_gives = { λ number slice.
+        MatchResult slice (λ s. slice_number s ≡ number) (λ _. last_slice < number) };
 
     fn try_from(number: u64) -> Result<Self, NoSlice> {
         match number {
@@ -223,7 +228,7 @@ fn start_of_words(numbers: &[u64]) -> Option<usize>
 }
 
 // Words, from a word on, compared with those recorded: all agree, or the first that is another.
-// kept: words beside numbers of 64 bits, of which the first that differs is named: an equality of slices says neither.
+// kept: a loop, and no zip with the words from the start on, since a word past the end is 0 and is compared too.
 fn compare(left: &[u16], start: usize, recorded: &[u64]) -> Verdict
     requires { (start ≤ near_enough) × (length recorded.now ≤ max_fields) }
     ensures { result ≡ compared_from left.now start recorded.now }
@@ -443,6 +448,7 @@ impl Recorded for RecordedSolve {
 
     #[tactic(auto, unfolding(crate::specs::Inner::Lines::by_letter))]
     fn replay(&mut self, letter: u8, numbers: &[u64]) -> Verdict {
+        // kept: a match and no table of functions: each arm has a contract of its own; those of a table share one.
         match Letter::from(letter) {
             Letter::List => self.begin(numbers),
             Letter::Gives => self.give(numbers),

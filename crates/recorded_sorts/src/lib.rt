@@ -13,15 +13,15 @@ ghost use Rattle.recorded_sorts.specs.Inner.Lines.{begin_line, row_line, run_lin
 ghost use Rattle.recorded_sorts.specs.Inner.Lines.{sorts_started};
 
 use replay::{MAX_WORDS, Recorded, Verdict, store};
-use resolved_sort::{ENTRIES_AT, ROW_WORDS, SORT_WORDS};
+use resolved_sort::{ENTRIES_AT, MAX_ENTRIES, MAX_SORTS, ROW_WORDS, SORT_WORDS};
 use sort_entries::{
     sort_is_materializable, sort_join, sort_meet, sort_partial_cmp, sort_widening_distance,
 };
 
 // The ceilings of a list, as numbers of a line.
-const SORTS: u64 = 1024;
+const SORTS: u64 = MAX_SORTS as u64;
 
-const ENTRIES: u64 = 4096;
+const ENTRIES: u64 = MAX_ENTRIES as u64;
 
 // What is asked of two sorts.
 #[derive(Clone, Copy, Debug, PartialEq, Eq)]
@@ -34,6 +34,7 @@ pub enum Question {
 }
 
 // What a line says by its letter.
+// kept: Other and no None: a byte that begins no line of the form is a line of its own, whose answer is NotOfForm.
 #[derive(Clone, Copy, Debug, PartialEq, Eq)]
 pub enum Letter {
     List,
@@ -247,6 +248,7 @@ impl Recorded for RecordedSorts {
 
     #[tactic(auto, unfolding(crate::specs::Inner::Lines::by_letter))]
     fn replay(&mut self, letter: u8, numbers: &[u64]) -> Verdict {
+        // kept: a match and no table of functions: each arm has a contract of its own; those of a table share one.
         match Letter::from(letter) {
             Letter::List => self.begin(numbers),
             Letter::Row => self.row(numbers),

@@ -15,33 +15,33 @@ ghost use Rattle.recorded_unify.specs.Inner.Lines.{begin_line, keep_of, row_line
 ghost use Rattle.recorded_unify.specs.Inner.Lines.{renewed, bindings_in, binds_line, unified, judged_of, ask_line};
 
 use replay::{MAX_WORDS, Recorded, Verdict, store};
-use resolved_sort::{ENTRIES_AT, ROW_WORDS, SORT_WORDS};
-use unification::{Lengths, MAX_VARS};
+use resolved_sort::{ENTRIES_AT, MAX_ENTRIES, MAX_SORTS, ROW_WORDS, SORT_WORDS};
+use unification::{Lengths, MAX_NODE_ENTRIES, MAX_NODES, MAX_VARS, NODE_ENTRIES_AT, NODE_WORDS};
 use unify_entries::sort_unify;
 use words::{copied, copy, put};
 
 // The parts of a list stand one after another in its words: sorts and their entries as the entry takes them, nodes and
 // theirs, the bindings, and at last the bindings that the next question leaves.
-const NODES_AT: usize = 8192;
+const NODES_AT: usize = SORT_WORDS;
 
-const ARGUMENTS_AT: usize = 16384;
+const ARGUMENTS_AT: usize = NODES_AT + NODE_ENTRIES_AT;
 
-const BINDINGS_AT: usize = 20480;
+const BINDINGS_AT: usize = NODES_AT + NODE_WORDS;
 
-const LEFT_AT: usize = 20992;
+const LEFT_AT: usize = BINDINGS_AT + MAX_VARS;
 
-const LIST_WORDS: usize = 21504;
+const LIST_WORDS: usize = LEFT_AT + MAX_VARS;
 
 // The ceilings of a list, as numbers of a line.
-const SORTS: u64 = 1024;
+const SORTS: u64 = MAX_SORTS as u64;
 
-const ENTRIES: u64 = 4096;
+const ENTRIES: u64 = MAX_ENTRIES as u64;
 
-const NODES: u64 = 2048;
+const NODES: u64 = MAX_NODES as u64;
 
-const ARGUMENTS: u64 = 4096;
+const ARGUMENTS: u64 = MAX_NODE_ENTRIES as u64;
 
-const VARIABLES: u64 = 512;
+const VARIABLES: u64 = MAX_VARS as u64;
 
 // A part of a list.
 #[derive(Clone, Copy, Debug, PartialEq, Eq)]
@@ -54,6 +54,7 @@ pub enum Part {
 }
 
 // What a line says by its letter.
+// kept: Other and no None: a byte that begins no line of the form is a line of its own, whose answer is NotOfForm.
 #[derive(Clone, Copy, Debug, PartialEq, Eq)]
 pub enum Letter {
     List,
@@ -202,12 +203,14 @@ fn judge(words: &[u16; LIST_WORDS], bindings: &[u16; MAX_VARS], got: u64, record
     if got != recorded {
         return Verdict::Differs(got);
     }
-    for i in 0..MAX_VARS {
-        if bindings[i] != words[LEFT_AT + i] {
-            return Verdict::BindsOther(i as u16);
-        }
+    let other = bindings
+        .iter()
+        .zip(&words[LEFT_AT..])
+        .position(|(binding, left)| binding != left);
+    match other {
+        Some(i) => Verdict::BindsOther(i as u16),
+        None => Verdict::Agrees,
     }
-    Verdict::Agrees
 }
 
 impl RecordedUnify {
@@ -376,6 +379,7 @@ impl Recorded for RecordedUnify {
 
     #[tactic(auto, unfolding(crate::specs::Inner::Lines::by_letter))]
     fn replay(&mut self, letter: u8, numbers: &[u64]) -> Verdict {
+        // kept: a match and no table of functions: each arm has a contract of its own; those of a table share one.
         match Letter::from(letter) {
             Letter::List => self.begin(numbers),
             Letter::Row(part) => self.row(part, numbers),
