@@ -2,3 +2,4 @@
 pub mod Laws
 pub mod Settling
 pub mod Growing
+pub mod Fronts

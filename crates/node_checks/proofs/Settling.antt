@@ -16,11 +16,13 @@ use Rattle.unification.specs.declared.InferSortId.{InferSortId}
 use Rattle.unification.specs.declared.SortVar.{SortVar}
 use Rattle.unification.specs.declared.InferSort.{InferSort}
 use Rattle.unification.specs.declared.InferSort.TheVariants.{Generic, Function, Var}
+use Rattle.resolved_sort.specs.Checks.{all_below}
 use Rattle.unification.specs.Nodes.{node_entry_at, node_entries_of, node_at, node_shape, free_word, binding_of, binds_of}
 use Rattle.unification.specs.Acyclic.{place_settled, all_settled, shape_settled, nodes_settled, binding_settled, vars_settled, rounds, all_true, acyclic}
 use Rattle.unification.proofs.Settles.{var_is, length_vars, sort_settled, node_flag}
 use Rattle.unification.proofs.Passed.{length_binds}
 use Rattle.infer_nodes.proofs.Ways.{binding_word}
+use Rattle.node_checks.proofs.Fronts.{from_front, same_below}
 
 -- a place, a binding
 pub sort_is_settled : (ms : List Bool) (p : ℕ) → p < 1024 → true ≡ place_settled ms p
@@ -36,40 +38,15 @@ pub bound_settled : (ms : List Bool) (w : ℕ) → (w ≡ free_word → ⊥) →
 bound_settled ms w d r x = x ∙ sym (ap (λ b. binding_settled ms (cond b none (some w))) (ne_eqb w free_word d))
 
 -- a run of arguments
-module _ (ns : List ℕ) (ms : List Bool) (s c : ℕ) where
-  pub record RunLeft (j : ℕ) : Type 0 where
-    pub within : j ≤ c
-    pub left : all_settled ms (node_entries_of ns s c) ≡ all_settled ms (node_entries_of ns (s + j) (c - j))
-
-  pub run_begins : RunLeft 0
-  run_begins = record {
-    within = omega arith;
-    left = ap₂ (λ (x y : ℕ). all_settled ms (node_entries_of ns x y))
-        (let z : s ≡ s + 0 = omega arith in z) (let z : c ≡ c - 0 = omega arith in z);
-  }
-
-  module _ (j : ℕ) (p : RunLeft j) where
-    module _ (l : j < c) (b : Bool) (e : b ≡ place_settled ms (node_entry_at ns (s + j))) where
-      one_and_rest : all_settled ms (node_entries_of ns s c) ≡ (b && all_settled ms (node_entries_of ns (s + (j + 1)) (c - (j + 1))))
-      unfolding all_settled node_entries_of
-      one_and_rest =
-          p.left
-          ∙ (ap (λ (x : ℕ). all_settled ms (node_entries_of ns (s + j) x)) (let z : c - j ≡ suc (c - (j + 1)) = omega (arith, l) in z)
-          ∙ ap₂ (λ (x : Bool) (y : ℕ). x && all_settled ms (node_entries_of ns y (c - (j + 1)))) (sym e) (let z : s + j + 1 ≡ s + (j + 1) = omega arith in z))
-
-      pub argument_open : b ≡ false → false ≡ all_settled ms (node_entries_of ns s c)
-      argument_open x = sym (one_and_rest ∙ ap (λ y. y && all_settled ms (node_entries_of ns (s + (j + 1)) (c - (j + 1)))) x)
-
-      pub argument_passed : b ≡ true → RunLeft (j + 1)
-      argument_passed x = record {
-        within = omega (arith, l);
-        left = one_and_rest ∙ ap (λ y. y && all_settled ms
-            (node_entries_of ns (s + (j + 1)) (c - (j + 1)))) x;
-      }
-
-    pub run_ends : c ≤ j → true ≡ all_settled ms (node_entries_of ns s c)
-    unfolding all_settled node_entries_of
-    run_ends l = sym (p.left ∙ ap (λ (x : ℕ). all_settled ms (node_entries_of ns (s + j) x)) (let z : c - j ≡ 0 = omega (arith, l) in z))
+pub run_settled : (ns : List ℕ) (ms : List Bool) (c s : ℕ)
+    → all_below c (λ j. place_settled ms (node_entry_at ns (s + j))) ≡ all_settled ms (node_entries_of ns s c)
+unfolding all_below all_settled node_entries_of
+run_settled ns ms zero s = refl
+run_settled ns ms (suc c) s =
+    from_front c (λ j. place_settled ms (node_entry_at ns (s + j)))
+    ∙ ap₂ (λ (x y : Bool). x && y) (ap (λ i. place_settled ms (node_entry_at ns i)) (let z : s + 0 ≡ s = omega arith in z))
+    (same_below c (λ j. place_settled ms (node_entry_at ns (s + suc j))) (λ j. place_settled ms (node_entry_at ns (s + 1 + j)))
+    (λ j l. ap (λ i. place_settled ms (node_entry_at ns i)) (let z : s + suc j ≡ s + 1 + j = omega arith in z)) ∙ run_settled ns ms c (s + 1))
 
 -- a node
 settled_last : (ms : List Bool) (xs : List ℕ) (y : ℕ) → all_settled ms (xs ++ (y ∷ [])) ≡ (all_settled ms xs && place_settled ms y)
@@ -166,7 +143,5 @@ rounds_over ns bs m v r vs i e b x = x ∙ (ap all_true e ∙ ap (λ (n : ℕ). 
 
 -- each way through the code
 pub ruleset bindings = (free_settled, bound_settled)
-
-pub ruleset arguments = (run_begins, argument_open, argument_passed, run_ends)
 
 pub ruleset node_ways = (generic_settled, domain_open, range_decides, variable_settled)

@@ -131,16 +131,10 @@ impl Lent<'_> {
 }
 
 // Check 6: each of the v bindings is free or names a place.
-#[tactic(auto, using(crate::proofs::Laws::bindings_passed))]
 fn bindings_fine(binds: &[u16], v: usize, n: usize, m: usize) -> bool
     ensures { result ≡ bindings_fine n m (binds_of binds.now v) }
 {
-    for i in 0..v {
-        if !binding_fine(n, m, word(binds, i)) {
-            return false;
-        }
-    }
-    true
+    (0..v).all(|i| binding_fine(n, m, word(binds, i)))
 }
 
 #[tactic(auto, using(crate::proofs::Laws::bindings))]
@@ -168,17 +162,13 @@ fn place_settled(flags: &[bool], place: InferSortId) -> bool
 }
 
 // Whether each of a run of arguments is settled.
-#[tactic(auto, using(crate::proofs::Settling::arguments))]
-fn arguments_settled(nodes: &[u16], flags: &[bool], start: u16, count: u16) -> bool
-    ensures { result ≡ all_settled flags.now (node_entries_of nodes.now start count) }
+fn arguments_settled(nodes: &[u16], flags: &[bool], run: Run) -> bool
+    ensures { result ≡ all_settled flags.now (node_entries_of nodes.now run.start run.count) }
 {
-    for j in 0..count {
-        let at = NODE_ENTRIES_AT + ((start as usize) + (j as usize));
-        if !place_settled(flags, InferSortId(word(nodes, at))) {
-            return false;
-        }
-    }
-    true
+    (0..run.count).all(|j| {
+        let at = NODE_ENTRIES_AT + ((run.start as usize) + (j as usize));
+        place_settled(flags, InferSortId(word(nodes, at)))
+    })
 }
 
 // Whether a node is settled, by the variables and the nodes below it.
@@ -191,8 +181,7 @@ fn node_settled(nodes: &[u16], vars: &[bool], flags: &[bool], id: NodeId) -> boo
     match node(nodes, id) {
         InferSort::Generic { op: _, subsort } => place_settled(flags, subsort),
         InferSort::Function { domain, range } => {
-            arguments_settled(nodes, flags, domain.start, domain.count)
-                && place_settled(flags, range)
+            arguments_settled(nodes, flags, domain) && place_settled(flags, range)
         }
         InferSort::Var(var) => flag(vars, var.0 as usize),
     }
