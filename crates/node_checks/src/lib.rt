@@ -192,6 +192,7 @@ fn settle_nodes(nodes: &[u16], m: usize, vars: &[bool], flags: &mut [bool])
     requires { (m ≤ max_nodes) × (m ≤ length flags.old) }
     ensures { take m flags.new ≡ nodes_settled nodes.now vars.now m }
 {
+    // kept: by index: a node is settled by the flags before its own, which a loop over all flags to be set would hold.
     for i in 0..m {
         let settled = node_settled(nodes, vars, &flags[..i], NodeId(i as u16));
         flags[i] = settled;
@@ -210,8 +211,8 @@ fn settle_vars(binds: &[u16], v: usize, flags: &[bool], vars: &mut [bool])
     requires { v ≤ length vars.old }
     ensures { take v vars.new ≡ vars_settled flags.now (binds_of binds.now v) }
 {
-    for x in 0..v {
-        vars[x] = binding_settled(flags, word(binds, x));
+    for (x, var) in vars[..v].iter_mut().enumerate() {
+        *var = binding_settled(flags, word(binds, x));
     }
 }
 
