@@ -7,7 +7,7 @@ use Prim.Native.Nat.{ℕ, suc, ◌+◌, ◌<◌, ◌≤◌}
 use native.Mathlib.Omega.{arith}
 use native.Mathlib.Numerals.{add-one}
 use lib.ListN.{length, get_or, set, take, drop, length-set, drop_of_length-le}
-use lib.Seq.{sets, take-suc, take-suc-set, drop-cons, get_or-take, length-take-le}
+use lib.Seq.{sets, take-suc, take-suc-set, take-length, drop-cons, get_or-take, get_or-set_other, length-take-le}
 use lib.Dec.{eqb}
 use borrow.Author.Tests.{lt-ltb, le-ltb, le-leb, lt-leb}
 use Rattle.resolved_sort.specs.declared.ComplexSort.{ComplexSort}
@@ -41,7 +41,7 @@ use Rattle.unification.specs.Resolve.{with_counts}
 use Rattle.related_sorts.specs.declared.listing.Listed.{Listed}
 use Rattle.related_sorts.specs.Listed.{numbers, places}
 use Rattle.related_sorts.specs.Inner.Outcome.{found_op, row, no_room_in, listed, some_listed}
-use Rattle.related_sorts.proofs.Numbers.{length_numbers, get_or_numbers, set_numbers}
+use Rattle.related_sorts.proofs.Numbers.{length_numbers, get_or_numbers, set_numbers, front_numbers}
 
 -- one more node
 module _ (ws ns : List ℕ) (k : Lengths) (kind part : ℕ) (args : List ℕ) where
@@ -134,7 +134,8 @@ before done ps W = made (done ++ ps) W
 
 pub record Over (xs : List ℕ) (rs : Listed) (W₀ : Lent) (ids : List InferSortId) (W : Lent) (i : ℕ) : Type 0 where
   pub within : i ≤ rs.count
-  pub long : length ids ≡ 3
+  pub long : length ids ≡ rs.count
+  pub unread : (j : ℕ) → i ≤ j → j < rs.count → get_or ids j (record { 0 = 0 }) ≡ get_or rs.ids j (record { 0 = 0 })
   pub same : push_functions xs (places rs) W₀ ≡ (push_functions xs (drop i (places rs)) W and-then before (take i (numbers ids)))
 
 module _ (xs : List ℕ) (rs : Listed) (long : length rs.ids ≡ 3) (W₀ : Lent) where
@@ -143,28 +144,39 @@ module _ (xs : List ℕ) (rs : Listed) (long : length rs.ids ≡ 3) (W₀ : Lent
   keep_all (no_list W) = refl
   keep_all (no_room c W) = refl
 
-  pub over_begins : Over xs rs W₀ rs.ids W₀ 0
-  over_begins = record { within = omega arith; long = long; same = keep_all (push_functions xs (places rs) W₀) }
+  pub over_begins : Over xs rs W₀ (take rs.count rs.ids) W₀ 0
+  over_begins =
+      record {
+        within = omega arith;
+        long = length-take-le rs.count rs.ids (omega (arith, rs.few, long));
+        unread = λ j l h. get_or-take rs.count rs.ids j (record { 0 = 0 }) h;
+        same = keep_all (push_functions xs (places rs) W₀);
+      }
 
   module _ (ids : List InferSortId) (W : Lent) (i : ℕ) (g : Over xs rs W₀ ids W i) where
     many : length (places rs) ≡ rs.count
     many = length-take-le rs.count (numbers rs.ids) (omega (arith, rs.few, length_numbers rs.ids, long))
 
-    pub over_ends : rs.count ≤ i → made (take rs.count (numbers ids)) W ≡ push_functions xs (places rs) W₀
+    -- what was stored stands before what is left of the array
+    all_stored : rs.count ≤ i → (qs : List InferSortId) → take i (numbers ids) ≡ take rs.count (numbers (ids ++ qs))
+    all_stored h qs =
+        ap (λ (j : ℕ). take j (numbers ids)) (let z : i ≡ length (numbers ids) = omega (arith, h, g.within, g.long, length_numbers ids) in z)
+        ∙ (take-length (numbers ids) ∙ (sym (front_numbers ids qs ids refl) ∙ ap (λ (j : ℕ). take j (numbers (ids ++ qs))) g.long))
+
+    pub over_ends : rs.count ≤ i → (qs : List InferSortId) → made (take rs.count (numbers (ids ++ qs))) W ≡ push_functions xs (places rs) W₀
     unfolding push_functions
-    over_ends h =
+    over_ends h qs =
         let none : drop i (places rs) ≡ [] = drop_of_length-le (places rs) (omega (arith, many, h)) in
         sym (g.same ∙ ap (λ (ys : List ℕ). push_functions xs ys W and-then before (take i (numbers ids))) none
-        ∙ ap (λ (ys : List ℕ). made ys W) (append-nil (take i (numbers ids))
-        ∙ ap (λ (j : ℕ). take j (numbers ids)) (let z : i ≡ rs.count = omega (arith, h, g.within) in z)))
+        ∙ ap (λ (ys : List ℕ). made ys W) (append-nil (take i (numbers ids)) ∙ all_stored h qs))
 
-    module _ (h : i < rs.count) (p : Result InferSortId Full) (W₁ : Lent) (range : ℕ) (er : range ≡ (get_or rs.ids i (record { 0 = 0 })).0)
+    module _ (h : i < rs.count) (p : Result InferSortId Full) (W₁ : Lent) (range : ℕ) (read : range ≡ (get_or ids i (record { 0 = 0 })).0)
         (e : node_of p W₁ ≡ push_node (row function_kind range xs) W) where
       abbrev rest : ℕ → Lent → Makes (List ℕ)
       rest q V = push_functions xs (drop (suc i) (places rs)) V and-then (λ ps U. made (q ∷ ps) U)
 
       range_is : range ≡ get_or (places rs) i 0
-      range_is = er ∙ (get_or_numbers rs.ids i ∙ sym (get_or-take rs.count (numbers rs.ids) i 0 h))
+      range_is = read ∙ ap (λ (p : InferSortId). p.0) (g.unread i (omega arith) h) ∙ (get_or_numbers rs.ids i ∙ sym (get_or-take rs.count (numbers rs.ids) i 0 h))
 
       step : push_functions xs (places rs) W₀ ≡ (node_of p W₁ and-then (λ q V. rest q V and-then before (take i (numbers ids))))
       unfolding push_functions
@@ -195,6 +207,7 @@ module _ (xs : List ℕ) (rs : Listed) (long : length rs.ids ≡ 3) (W₀ : Lent
           record {
             within = omega (arith, h);
             long = length-set ids i q ∙ g.long;
+            unread = λ j l k. get_or-set_other ids i j q (record { 0 = 0 }) (λ z. omega (arith, z, l)) ∙ g.unread j (omega (arith, l)) k;
             same =
                 step ∙ (ap (λ y. node_of y W₁ and-then (λ q V. rest q V and-then before (take i (numbers ids)))) z
                 ∙ (after_one q.0 (push_functions xs (drop (suc i) (places rs)) W₁)

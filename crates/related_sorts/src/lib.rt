@@ -113,6 +113,9 @@ fn final_range(bindings: &Bindings, id: InferSortId, functions: &mut [u16]) -> L
 }
 
 // The sorts and nodes as they grow, and how much of them is in use: what is made is appended.
+// kept: beside Places of infer_nodes, which has the same parts: those are only read, and copied into what asks.
+// kept: bindings and `up` go beside it, and are no fields: the bindings are read on the way to an end alone, and what is
+// asked of a place or a constructor is asked in one direction.
 #[derive(Drop)]
 pub struct Arena<'a> {
     pub sorts: &'a mut [u16],
@@ -173,7 +176,6 @@ impl Arena<'_> {
     }
 
     // Functions of the same arguments over each of the ranges.
-    // kept: by index: over `&mut ids` one name would be the range that is read and the function that is stored.
     fn push_functions(&mut self, domain: &[u16], ranges: Listed) -> Result<Listed, Full>
         requires { length domain.now ≤ max_arguments }
         ensures keeps { Keeps self.old self.new }
@@ -181,9 +183,8 @@ impl Arena<'_> {
             (push_functions domain.now (places ranges) (world self.old)) }
     {
         let mut ids = ranges.ids;
-        for i in 0..ranges.count {
-            let range = ranges.ids[i];
-            ids[i] = self.push(FUNCTION_KIND, range, domain)?;
+        for id in ids[..ranges.count].iter_mut() {
+            *id = self.push(FUNCTION_KIND, *id, domain)?;
         }
         Ok(Listed {
             ids,
@@ -303,7 +304,8 @@ impl Arena<'_> {
     }
 
     // The functions over what was found for their final range, the innermost first.
-    // kept: by index from the back: over `iter().rev()` the invariant would speak of what was yielded.
+    // kept: by index from the back: over `iter().rev()` the index is the length less the number of those yielded, and
+    // the invariant has to say besides that these are the last functions, the last of them first.
     fn over_functions(&mut self, functions: &[u16], found: Listed) -> Result<Listed, Full>
         requires { AllStand functions.now (length functions.now) (made (places found) (world self.old)) }
         ensures keeps { Keeps self.old self.new }

@@ -6,11 +6,10 @@ use mathlib.Core.Bool.{true, false, ◌&&◌, and-eq-true_iff}
 use mathlib.Core.List.{List}
 use mathlib.Core.Logic.{◌↔◌}
 use Prim.Native.Nat.{ℕ}
-use native.Mathlib.Omega.{arith}
 use lib.ListN.{take}
 use Rattle.std.specs.Prelude.{Ok, Err}
 use Rattle.resolved_sort.specs.declared.Refusal.TheVariants.{Cyclic as CyclicBindings}
-use Rattle.resolved_sort.specs.Checks.{within_lent, Check, Tested, first_failing, code_of}
+use Rattle.resolved_sort.specs.Checks.{within_lent, Check, Tested, first_failing}
 use Rattle.resolved_sort.specs.Entries.{refused_or}
 use Rattle.resolved_sort.proofs.FirstFailing.{cons_passes}
 use Rattle.resolved_sort.specs.declared.Refusal.{Refusal}

@@ -3,7 +3,7 @@
 use mathlib.Core.Path.{◌≡◌, refl, ap, ap₂, sym, ◌∙◌, subst}
 use mathlib.Core.List.{List, [], ◌∷◌, ◌++◌}
 use mathlib.Core.Bool.{Bool, true, false, not, ◌&&◌, and-eq-true_iff}
-use Prim.Native.Nat.{ℕ, ◌+◌, ◌-◌, ◌*◌, ◌<◌, ◌≤◌}
+use Prim.Native.Nat.{ℕ, ◌-◌, ◌*◌, ◌<◌, ◌≤◌}
 use native.Mathlib.Omega.{arith}
 use lib.ListN.{length, drop, take-append-drop}
 use lib.Dec.{leb}
@@ -19,7 +19,7 @@ use Rattle.resolved_sort.proofs.FirstFailing.{first_fails, first_passes, cons_pa
 use Rattle.resolved_sort.proofs.Testing.{fails, passes, first_refuses, second_decides, first_of_two, second_of_two, both_of_two}
 use Rattle.unification.specs.declared.Lengths.{Lengths}
 use Rattle.unification.specs.Nodes.{max_nodes, max_node_entries, max_vars, node_entries_at, full_nodes, is_place, shape_at, binds_of}
-use Rattle.unification.specs.Unify.{Unifies, yes_with, unify}
+use Rattle.unification.specs.Unify.{Unifies, unify}
 use Rattle.unification.specs.Acyclic.{acyclic}
 use Rattle.unification.specs.NodeChecks.{nodes_within_lent, bindings_within_lent, nodes_fine, bindings_fine, node_checks, place_checks, unify_checks}
 use Rattle.unification.specs.Checked.{lists_of, Ready}

@@ -3,6 +3,6 @@ use Rattle.related_sorts.specs.Arena.{world, Keeps}
 use Rattle.related_sorts.proofs.Laws.{Over}
 use Rattle.related_sorts.proofs.Arena.push_functions.Given as goal
 
-abbrev pub invariant-loop-i : goal.invariant-loop-i
-invariant-loop-i l =
-    Keeps l.initial.self l.self × Over l.domain l.fn.ranges (world l.initial.self) l.ids (world l.self) l.i
+abbrev pub invariant-loop-id : goal.invariant-loop-id
+invariant-loop-id l =
+    Keeps l.initial.self l.self × Over l.domain l.fn.ranges (world l.initial.self) l.id-items (world l.self) l.id-index
