@@ -18,7 +18,7 @@ use Rattle.resolved_sort.proofs.RowTrees.{by_kind}
 use Rattle.resolved_sort.proofs.Fine.{run_inside}
 use Rattle.unification.specs.declared.Lengths.{Lengths}
 use Rattle.unification.specs.declared.InferSort.{InferSort}
-use Rattle.unification.specs.declared.InferSort.TheVariants.{Generic, Function, Var}
+use Rattle.unification.specs.declared.InferSort.TheVariants.{Function, Var}
 use Rattle.unification.specs.declared.SortVar.{SortVar}
 use Rattle.std.specs.Prelude.{Some, None}
 use Rattle.unification.specs.Term.{Head, Shape, variable, over, kind_head, number_head, same_head}
@@ -31,7 +31,7 @@ use Rattle.unification.proofs.Places.{sort_below, node_below}
 use Rattle.unification.proofs.Rows.{node_function_fine, sort_no_variable, node_fine_parts}
 use Rattle.unification.proofs.Lists.{sort_fine, node_fine_lem}
 use Rattle.infer_nodes.specs.Inner.Parts.{NodesReady, var_by, var_at, number_by, count_by, entry_in, SmallCount, RowAt, Says}
-use Rattle.infer_nodes.proofs.Shapes.{at_sort, at_node, shape_of_node, shape_of_variable}
+use Rattle.infer_nodes.proofs.Shapes.{at_sort, at_node, shape_of_variable}
 
 -- a run and the range behind it
 module _ (entry : ℕ → ℕ) (entries : ℕ → ℕ → List ℕ) (R : Runs entry entries) where
@@ -222,19 +222,10 @@ module _ (ws ns : List ℕ) (k : Lengths) (q : NodesReady ws ns k) (p : ℕ) (e 
         → Says s (entry_in us at) a b c d
     row_of_node x y a b c d us at r = rw (r.is_kind, r.is_part, r.is_start, r.is_count, r.is_words, r.is_at, y) says_node
 
-  -- a node that is a variable, and one that is none
+  -- a node that is a variable
   module _ (l : max_sorts ≤ p) (r : InferSort) (i : r ≡ node_at ns (p - max_sorts)) where
     pub node_variable : (v : SortVar) → r ≡ Var v → Some v ≡ var_at s
     node_variable v x = sym (ap var_at (shape_of_variable ws ns k q p e l r i v x))
-
-    pub node_not_variable : ((v : SortVar) → r ≡ Var v → ⊥) → None ≡ var_at s
-    unfolding node_shape
-    node_not_variable d = sym (ap var_at (shape_of_node ws ns k q p e l r i) ∙ go r d)
-      where
-        go : (t : InferSort) → ((v : SortVar) → t ≡ Var v → ⊥) → var_at (node_shape ns t) ≡ None
-        go (Generic op t) h = refl
-        go (Function d t) h = refl
-        go (Var v) h = absurd (h v refl)
 
 -- equal kinds and equal numbers
 pub heads_alike : (h g : Head) (a m b n : ℕ) → a ≡ kind_head h → m ≡ number_head h → b ≡ kind_head g → n ≡ number_head g

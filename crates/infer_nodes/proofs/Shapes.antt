@@ -13,7 +13,7 @@ use Rattle.unification.specs.Term.{Shape, variable}
 use Rattle.unification.specs.Nodes.{node_at, sort_shape, node_shape, shape_at}
 use Rattle.unification.specs.NodeChecks.{node_parts_fine}
 use Rattle.unification.specs.Checked.{graph_of, Placed}
-use Rattle.unification.proofs.Lists.{scoped, node_parts_fine_lem}
+use Rattle.unification.proofs.Lists.{node_parts_fine_lem}
 use Rattle.unification.proofs.Places.{node_below}
 use Rattle.infer_nodes.specs.Inner.Parts.{NodesReady}
 
@@ -42,6 +42,3 @@ module _ (ws ns : List ℕ) (k : Lengths) (q : NodesReady ws ns k) where
       pub shape_of_variable : shape p ≡ variable u.0
       unfolding node_shape
       shape_of_variable = shape_of_node ∙ ap (node_shape ns) x
-
-      pub variable_in_list : u.0 < k.variables
-      variable_in_list = scoped ws k.sorts k.entries ns k.nodes k.arguments k.variables q p u.0 shape_of_variable

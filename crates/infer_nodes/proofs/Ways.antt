@@ -11,7 +11,6 @@ use lib.Dec.{eqb}
 use borrow.Author.Tests.{lt-ltb, le-ltb, ne_eqb, eq-eqb}
 use Rattle.resolved_sort.specs.declared.Run.{Run}
 use Rattle.resolved_sort.specs.declared.ComplexSort.{ComplexSort}
-use Rattle.resolved_sort.specs.declared.ResolvedSort.{ResolvedSort}
 use Rattle.resolved_sort.specs.declared.NoContainer.{NoContainer}
 use Rattle.resolved_sort.specs.Storage.{max_sorts, row_at, container_of}
 use Rattle.resolved_sort.proofs.Reached.{no_confusion}
@@ -51,13 +50,6 @@ binding_word [] (suc n) zero l = refl
 binding_word [] (suc n) (suc v) l = binding_word [] n v (omega (arith, l)) ∙ refl
 binding_word (w ∷ bs) (suc n) zero l = refl
 binding_word (w ∷ bs) (suc n) (suc v) l = binding_word bs n v (omega (arith, l))
-
-sort_bound : (ws : List ℕ) (r : ResolvedSort) (B : Binds) → bound_to (sort_shape ws r) B ≡ none
-sort_bound ws r B = go (sort_shape ws r) refl
-  where
-    go : (s : Shape) → sort_shape ws r ≡ s → bound_to s B ≡ none
-    go (variable v) e = sort_no_variable ws v r e
-    go (over h ps) e = refl
 
 or_absent : (x : Occurs) → or_else x absent ≡ x
 or_absent absent = refl

@@ -15,7 +15,7 @@ use Rattle.resolved_sort.specs.declared.SortId.{SortId}
 use Rattle.resolved_sort.specs.declared.Counts.{Counts}
 use Rattle.std.specs.Prelude.{Option as Found, Some, None, Result, Ok, Err}
 use Rattle.resolved_sort.specs.Entries.{Joined}
-use Rattle.resolved_sort.specs.Entries.{At as JoinedAt, Nothing as JoinedNothing, Full as JoinedFull}
+use Rattle.resolved_sort.specs.Entries.{At as JoinedAt, Full as JoinedFull}
 use Rattle.resolved_sort.specs.Tree.{Tree, container}
 use Rattle.resolved_sort.specs.Interning.{look, member, made as made-sort, full, fits, intern}
 use Rattle.resolved_sort.specs.Storage.{function_kind, Row, kind_op, put_row, trees, sorts_of}
@@ -215,7 +215,7 @@ module _ (xs : List ℕ) (rs : Listed) (long : length rs.ids ≡ 3) (W₀ : Lent
                 ∙ ap (λ (ys : List ℕ). push_functions xs (drop (i + 1) (places rs)) W₁ and-then before (take (i + 1) ys)) (sym (set_numbers ids i q)))));
           }
 
--- interning that found no room has changed nothing, and it never answers that there is none
+-- interning that found no room has changed nothing
 module _ (ws : List ℕ) (n e : ℕ) (k : Checked ws n e) (t : Tree) (ws₁ : List ℕ) where
   full_by : (a b : Bool) → stored_at ws₁ JoinedFull ≡ stored ws n e (cond a (made-sort t (sorts_of ws n e))
       (cond b (made-sort t (more ws n e t)) (full (sorts_of ws n e)))) → ws₁ ≡ ws
@@ -227,17 +227,6 @@ module _ (ws : List ℕ) (n e : ℕ) (k : Checked ws n e) (t : Tree) (ws₁ : Li
   pub full_unchanged : stored_at ws₁ JoinedFull ≡ intern_at ws n e t → ws₁ ≡ ws
   unfolding intern_at intern
   full_unchanged x = full_by (member (trees ws n) t) (fits t (sorts_of ws n e)) x
-
-  none_by : {A : Type 0} (K : Counts) (a b : Bool) → stored_at ws₁ (JoinedNothing K) ≡ stored ws n e
-      (cond a (made-sort t (sorts_of ws n e)) (cond b (made-sort t (more ws n e t)) (full (sorts_of ws n e)))) → A
-  unfolding stored
-  none_by K true b x = absurd (let y = ap (λ (r : Stored). r.answer) x in let z : ◌≡◌ {A = ℕ} 0 1 = cc in omega arith)
-  none_by K false true x = absurd (let y = ap (λ (r : Stored). r.answer) x in let z : ◌≡◌ {A = ℕ} 0 1 = cc in omega arith)
-  none_by K false false x = absurd (let y = ap (λ (r : Stored). r.answer) x in let z : ◌≡◌ {A = ℕ} 0 1 = cc in omega arith)
-
-  pub never_none : {A : Type 0} (K : Counts) → stored_at ws₁ (JoinedNothing K) ≡ intern_at ws n e t → A
-  unfolding intern_at intern
-  never_none K x = none_by K (member (trees ws n) t) (fits t (sorts_of ws n e)) x
 
 -- containers
 module _ (up : Bool) (o : ComplexSort) (b : Found ComplexSort) (e : b ≡ found_op (related_container up o)) where

@@ -41,8 +41,3 @@ three_numbers [] e n = absurd (omega (arith, e))
 three_numbers (p ∷ []) e n = absurd (omega (arith, e))
 three_numbers (p ∷ q ∷ []) e n = absurd (omega (arith, e))
 three_numbers (p ∷ q ∷ r ∷ s ∷ ps) e n = absurd (omega (arith, e))
-
-pub take_numbers : (n : ℕ) (ps : List InferSortId) → numbers (take n ps) ≡ take n (numbers ps)
-take_numbers zero ps = refl
-take_numbers (suc n) [] = refl
-take_numbers (suc n) (p ∷ ps) = ap (λ l. p.0 ∷ l) (take_numbers n ps)

@@ -292,15 +292,6 @@ module _ (ws ns bs : List ℕ) (k : Lengths) (q : Ready ws ns bs k) where
         pub functions_related : outwards fs r.count O ≡ answer p
         functions_related = ap (outwards fs r.count) found ∙ (back r.count r.range.0 z.down).1
 
--- a function over what was found
-module _ (W : Lent) (f : ℕ) (F : FunctionAt W.sorts W.nodes W.lengths f) where
-  pub function_counted : (m : ℕ) → m ≡ length (parts_of (graph W f)) → (0 < m) × IsFunction W.sorts W.nodes W.lengths f (m - 1)
-  function_counted m em = ends.counted W.sorts W.nodes W.lengths f F m em
-
-  pub over_pushed : (n : ℕ) → IsFunction W.sorts W.nodes W.lengths f n → (xs ps : List ℕ) → xs ≡ take n (parts_of (graph W f))
-      → push_functions xs ps W ≡ over_function f ps W
-  over_pushed n I xs ps x = ap (λ (ys : List ℕ). push_functions ys ps W) (x ∙ sym (ap arguments_of I.stands))
-
 -- over no list, and where there is no room, stands nothing
 outwards_none : (fs : List ℕ) (i : ℕ) (V : Lent) → outwards fs i (no_list V) ≡ no_list V
 unfolding outwards

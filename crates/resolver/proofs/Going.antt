@@ -150,9 +150,6 @@ module _ (ns bs : List ℕ) (x : Default) (s m g : ℕ) (ws₀ : List ℕ) (k₀
     made : stored_domain ws all ≡ arguments_resolved ws₀ k₀ x (argument_terms ws₀ ns bs k₀ s m) 0 (replicate 16 0)
     made = law.no_arguments ws ns bs k G.ready.0 x G.ready.1 (s + i) (m - i) i G.ready.2 (sort_numbers ids) (omega (arith, h)) (counts_in k) refl ∙ G.same
 
-    pub ids_fit : m ≤ length ids
-    ids_fit = omega (arith, G.stored, G.entered.2.short)
-
     pub range_ready : Ready ws ns bs k × DefaultBelow k.sorts x × Placed k g
     range_ready = law.range_ready ws₀ ns bs k₀ G.entered.0 x G.entered.1 s m g G.entered.2 G.entered.3
         ws all made (counts_in k) refl k G.counted
