@@ -10,9 +10,27 @@ ghost use Rattle.line_input.specs.Lines.{LineRead, SameMemory, seen};
 ghost use Rattle.line_input.specs.Inner.Answers.{Takes};
 ghost use Rattle.line_input.specs.Inner.Lines.{FilledBy, found_where};
 
-use std::io;
 use std::io::Read;
+use std::{fmt, io};
 use text_out::Out;
+
+// What ends a program that reads an input and writes an output, before the input ends.
+#[derive(Clone, Copy, Debug, PartialEq, Eq)]
+pub enum Failed {
+    Input,
+    Output,
+    Endless,
+}
+
+impl fmt::Display for Failed {
+    fn fmt<W: fmt::Write>(&self, f: &mut fmt::Formatter<W>) -> fmt::Result {
+        match self {
+            Failed::Input => write!(f, "the input cannot be read"),
+            Failed::Output => write!(f, "the output cannot be written"),
+            Failed::Endless => write!(f, "the input does not end"),
+        }
+    }
+}
 
 // An input line by line. The bytes of the buffer from `at` up to `end` are not taken yet, and what is held of a line
 // stands at the front of its memory.

@@ -3,7 +3,7 @@
 use Rattle.std.specs.Prelude.{◌≡◌, Bool, true, false, List, [], ℕ, Option, Result, Ok, Err, ⊤}
 use Rattle.std.specs.Io.KnownBytes.{Consumes, Appends, IsAtEnd}
 use Rattle.pair_line.specs.PairProgram.{output}
-use Rattle.pairs.specs.declared.Failed.{Failed}
+use Rattle.line_input.specs.declared.Failed.{Failed}
 use Rattle.pair_input.specs.ByteByByte.{Lines, take_bytes, at_end}
 
 -- A part of the input is read, and what it prints from the lines held on is written.

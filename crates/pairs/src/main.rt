@@ -14,29 +14,10 @@ ghost use Rattle.pair_input.specs.ByteByByte.{Lines, take_bytes, at_end};
 ghost use Rattle.pair_input.specs.HeldIn.{held_in};
 ghost use Rattle.pairs.specs.Printed.{AfterRead, AllPrinted};
 
+use line_input::Failed;
 use pair_input::HeldLines;
-use std::fmt;
 use std::io::{Read, Write};
 use std::process::ExitCode;
-
-// What ends the program before the input ends.
-// kept: an enum for each program, since what ends it, and its name in the message, differ.
-#[derive(Clone, Copy, Debug, PartialEq, Eq)]
-enum Failed {
-    Input,
-    Output,
-    Endless,
-}
-
-impl fmt::Display for Failed {
-    fn fmt<W: fmt::Write>(&self, f: &mut fmt::Formatter<W>) -> fmt::Result {
-        match self {
-            Failed::Input => write!(f, "the input cannot be read"),
-            Failed::Output => write!(f, "the output cannot be written"),
-            Failed::Endless => write!(f, "the input does not end"),
-        }
-    }
-}
 
 // The lines held, and the output for them: a buffer that it is put into, and where it is written.
 #[derive(Drop)]

@@ -18,33 +18,13 @@ ghost use Rattle.list_lines.specs.Lines.{unasked_text};
 ghost use Rattle.list_lines.specs.Longest.{printed_room, held_line};
 ghost use Rattle.solve_lists.specs.Printed.{number_text, line_printed, InputPrinted};
 
-use line_input::Lines;
+use line_input::{Failed, Lines};
 use list_lines::{HELD_LINE, PRINTED_ROOM, finish, hear};
 use list_memory::LIST_WORDS;
 use list_reader::List;
-use std::fmt;
 use std::io::{Read, Write};
 use std::process::ExitCode;
 use text_out::Out;
-
-// What ends the program before the input ends.
-// kept: an enum for each program, since what ends it, and its name in the message, differ.
-#[derive(Clone, Copy, Debug, PartialEq, Eq)]
-enum Failed {
-    Input,
-    Output,
-    Endless,
-}
-
-impl fmt::Display for Failed {
-    fn fmt<W: fmt::Write>(&self, f: &mut fmt::Formatter<W>) -> fmt::Result {
-        match self {
-            Failed::Input => write!(f, "the input cannot be read"),
-            Failed::Output => write!(f, "the output cannot be written"),
-            Failed::Endless => write!(f, "the input does not end"),
-        }
-    }
-}
 
 // Bytes of the output written.
 fn write<W: Write>(to: &mut W, bytes: &[u8]) -> Result<(), Failed>
