@@ -10,7 +10,7 @@ ghost use Rattle.pair_line.specs.Room.{line_room};
 ghost use Rattle.pair_line.specs.Answers.{with_lf};
 ghost use Rattle.held_line.specs.Holding.{line_at};
 ghost use Rattle.pair_input.specs.ByteByByte.{Lines, take_byte, at_end};
-ghost use Rattle.pair_input.specs.Held.{Holds, holds_prop, byte_in_memory, Feeds};
+ghost use Rattle.pair_input.specs.Held.{lines_of, Holds, holds_prop, byte_in_memory, Feeds};
 ghost use Rattle.pair_input.specs.Inner.Held.{TurnKept};
 
 use held_line::hold;
@@ -25,20 +25,12 @@ pub enum Held {
     Second(usize, usize),
 }
 
-// What bytes of the input leave beside the lines held: how many of them were taken, and how many bytes of output there
-// are.
+// What is held after bytes of the input, how many of them were taken, and how many bytes of output there are.
 #[derive(Clone, Copy, Debug, PartialEq, Eq)]
 pub struct Fed {
+    pub held: Held,
     pub used: usize,
     pub at: usize,
-}
-
-// The lines that are held, one behind the other in a memory for two.
-#[derive(Drop)]
-pub struct HeldLines {
-    pub memory: [u8; HELD_BYTES],
-    pub held: Held,
-    pub ghost holds: { Holds memory held } by { holds_prop memory held },
 }
 
 // The line of output of the pair that is held.
@@ -54,6 +46,76 @@ fn put_held(memory: &[u8], first: usize, second: usize, out: &mut Out)
     );
 }
 
+// A byte of the input; what is held then.
+fn take_byte(memory: &mut [u8], held: Held, byte: u8, out: &mut Out) -> Held
+    requires { Holds memory.old held }
+    ensures kept { TurnKept (take_byte (lines_of memory.old held) byte) (byte_in_memory memory.old held byte)
+        memory.new result }
+    ensures put { out.new ≡ then_put out.old (take_byte (lines_of memory.old held) byte).output }
+{
+    match (held, byte) {
+        (Held::First(first), b'\n') => Held::Second(first, 0),
+        (Held::First(first), _) => Held::First(hold(memory, MOST_HELD, 0, first, byte)),
+        (Held::Second(first, second), b'\n') => {
+            put_held(memory, first, second, out);
+            Held::First(0)
+        }
+        (Held::Second(first, second), _) => {
+            Held::Second(first, hold(memory, MOST_HELD, first, second, byte))
+        }
+    }
+}
+
+// Bytes of the input, as many as the buffer has room for the output of. A buffer of LINE_ROOM bytes takes at least
+// one.
+pub fn feed(memory: &mut [u8], held: Held, bytes: &[u8], out: &mut [u8]) -> Fed
+    requires { Holds memory.old held }
+    ensures { Feeds memory.old held bytes.now out.old
+        memory.new result.held out.new result.used result.at }
+{
+    let mut held = held;
+    let room = out.len();
+    let mut to = Out { bytes: out, at: 0 };
+    for (used, &byte) in bytes.iter().enumerate() {
+        if room - to.at < LINE_ROOM {
+            return Fed {
+                held,
+                used,
+                at: to.at,
+            };
+        }
+        held = take_byte(memory, held, byte, &mut to);
+    }
+    Fed {
+        held,
+        used: bytes.len(),
+        at: to.at,
+    }
+}
+
+// The end of the input: the line of output for what is still held, and its length. A last nonempty line needs no LF.
+pub fn finish(memory: &[u8], held: Held, out: &mut [u8]) -> usize
+    requires { Holds memory.now held × (line_room ≤ length out.old) }
+    ensures { Put out.old 0 (at_end (lines_of memory.now held)) out.new result }
+{
+    let mut to = Out { bytes: out, at: 0 };
+    match held {
+        Held::First(0) => {}
+        Held::First(first) => put_line(Gathered::Alone(&memory[..first]), &mut to),
+        Held::Second(first, 0) => put_line(Gathered::Alone(&memory[..first]), &mut to),
+        Held::Second(first, second) => put_held(memory, first, second, &mut to),
+    }
+    to.at
+}
+
+// The lines that are held, one behind the other in a memory for two.
+#[derive(Drop)]
+pub struct HeldLines {
+    pub memory: [u8; HELD_BYTES],
+    pub held: Held,
+    pub ghost holds: { Holds memory held } by { holds_prop memory held },
+}
+
 impl HeldLines {
     ghost use Rattle.pair_input.specs.HeldIn.{held_in};
 
@@ -67,62 +129,22 @@ impl HeldLines {
         }
     }
 
-    // A byte of the input.
-    fn take_byte(&mut self, byte: u8, out: &mut Out)
-        ensures kept { TurnKept (take_byte (held_in self.old) byte)
-            (byte_in_memory self.old.memory self.old.held byte) self.new.memory self.new.held }
-        ensures put { out.new ≡ then_put out.old (take_byte (held_in self.old) byte).output }
-    {
-        match (self.held, byte) {
-            (Held::First(first), b'\n') => self.held = Held::Second(first, 0),
-            (Held::First(first), _) => {
-                self.held = Held::First(hold(&mut self.memory, MOST_HELD, 0, first, byte));
-            }
-            (Held::Second(first, second), b'\n') => {
-                put_held(&self.memory, first, second, out);
-                self.held = Held::First(0);
-            }
-            (Held::Second(first, second), _) => {
-                let second = hold(&mut self.memory, MOST_HELD, first, second, byte);
-                self.held = Held::Second(first, second);
-            }
-        }
-    }
-
-    // Bytes of the input, as many as the buffer has room for the output of. A buffer of LINE_ROOM bytes takes at least
-    // one.
+    // Bytes of the input, as many as the buffer has room for the output of.
     pub fn feed(&mut self, bytes: &[u8], out: &mut [u8]) -> Fed
         ensures { Feeds self.old.memory self.old.held bytes.now out.old
             self.new.memory self.new.held out.new result.used result.at }
     {
-        let room = out.len();
-        let mut to = Out { bytes: out, at: 0 };
-        for (used, &byte) in bytes.iter().enumerate() {
-            if room - to.at < LINE_ROOM {
-                return Fed { used, at: to.at };
-            }
-            self.take_byte(byte, &mut to);
-        }
-        Fed {
-            used: bytes.len(),
-            at: to.at,
-        }
+        let fed = feed(&mut self.memory, self.held, bytes, out);
+        self.held = fed.held;
+        fed
     }
 
-    // The end of the input: the line of output for what is still held, and its length. A last nonempty line needs no
-    // LF.
+    // The end of the input: the line of output for what is still held, and its length.
     pub fn finish(&self, out: &mut [u8]) -> usize
         requires { line_room ≤ length out.old }
         ensures { Put out.old 0 (at_end (held_in self.now)) out.new result }
     {
-        let mut to = Out { bytes: out, at: 0 };
-        match self.held {
-            Held::First(0) => {}
-            Held::First(first) => put_line(Gathered::Alone(&self.memory[..first]), &mut to),
-            Held::Second(first, 0) => put_line(Gathered::Alone(&self.memory[..first]), &mut to),
-            Held::Second(first, second) => put_held(&self.memory, first, second, &mut to),
-        }
-        to.at
+        finish(&self.memory, self.held, out)
     }
 }
 
