@@ -39,7 +39,7 @@ pub enum LitKind {
     Natural,
 }
 
-// A word that is no kind of a name, or of a literal.
+// A word that is no kind of a name, of a literal or of a constraint.
 #[derive(Clone, Copy, Debug, PartialEq, Eq)]
 pub struct UnknownKind(pub u16);
 

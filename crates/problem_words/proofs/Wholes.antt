@@ -17,10 +17,6 @@ stored_whole vs old h =
 pub part_length : (a n : ℕ) (ws : List ℕ) → a + n ≤ length ws → length (part a n ws) ≡ n
 part_length = length_part
 
-pub copied_out : (a n : ℕ) (ws old xs : List ℕ) → a + n ≤ length ws → length old ≡ n → xs ≡ sets old 0 (part a n ws) → xs ≡ part a n ws
-copied_out a n ws old xs h l e =
-    e ∙ stored_whole (part a n ws) old (let z : length (part a n ws) ≡ length old = omega (arith, part_length a n ws h, l) in z)
-
 whole_part : (n : ℕ) (xs : List ℕ) → length xs ≡ n → part 0 n xs ≡ xs
 whole_part n xs l = take_all n xs (omega (arith, l))
 

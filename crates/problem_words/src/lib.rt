@@ -17,6 +17,8 @@ use unification::InferSortId;
 use words::word;
 
 // The kinds of constraints, by the first word of a row.
+// kept: beside inference's Constraint, which has these names: a case of that is made of all words of a row, and this one
+// tells from the first alone what the others are.
 #[derive(Clone, Copy, Debug, PartialEq, Eq)]
 pub enum ConstraintKind {
     Sub,

@@ -67,15 +67,6 @@ module _ (ws ns : List ℕ) (k : Lengths) (K : Counts) (eK : K ≡ record { sort
       unfolding join_in
       join_ends x z y = ends (bound_at true ws k.sorts k.entries a b) same_bound x y z
 
--- the head of a distance, where there is one
-pub head_is : (o : Maybe Steps) (d : StepsAnswer) (r : Option StepsAnswer) → r ≡ steps_of o → r ≡ Is d → d.head ≡ head_steps o
-head_is none d r e z = no_confusion (cc)
-head_is (some x) d r e z = cc
-
-pub no_head : (o : Maybe Steps) (r : Option StepsAnswer) → r ≡ steps_of o → r ≡ Nothing → 0 ≡ head_steps o
-no_head none r e z = refl
-no_head (some d) r e z = no_confusion (cc)
-
 -- the words that an interner held are the search's
 pub made_moved : (us vs : List ℕ) → vs ≡ us → (ns : List ℕ) (l : Lengths) (r : Result (Option SortId) NoRoom) (O : Makes ℕ)
     → made_of us ns l r ≡ O → made_of vs ns l r ≡ O

@@ -20,15 +20,14 @@ ghost use Rattle.unification.specs.Inner.Making.{lent};
 ghost use Rattle.inference.specs.Constraints.{max_components, rows_from};
 ghost use Rattle.inference.specs.Search.{resolve_in, join_in, resolve_all, join_all, head_steps, all_into};
 ghost use Rattle.inference.specs.Search.{agreed as agreedOn, join_of};
-ghost use Rattle.search_state.specs.Inner.Memory.{source_at, measure_at, scratch_used};
+ghost use Rattle.search_state.specs.Inner.Memory.{source_at, measure_at};
 ghost use Rattle.search_state.specs.Inner.Leaves.{made_of, extracted_of, AgreesOn};
 ghost use Rattle.search_state.specs.Inner.Solving.{Agreeing, KeepsRest, OnlySorts, lent_of};
 ghost use Rattle.search_join.specs.Inner.Sources.{Sources, Resolved, HasSorts};
 
-use infer_nodes::{counts_of, with_counts};
 use inference::MAX_SOURCES;
 use problem_words::source_at;
-use resolved_sort::{NoRoom, Run, SortId};
+use resolved_sort::{Counts, NoRoom, Run, SortId};
 use resolver::Resolver;
 use search_state::{Branch, MEASURE_AT, Search};
 use sort_bounds::join;
@@ -53,6 +52,8 @@ pub fn sort_of(
         × OnlySorts search.old search.new }
 {
     let lengths = search.lengths;
+    let counts = Counts::from(lengths);
+    let words = &mut *search.sorts;
     let nodes = &mut *search.nodes;
     let binds = &mut *search.binds;
     let resolver = Resolver {
@@ -61,17 +62,15 @@ pub fn sort_of(
         lengths,
         default,
     };
-    let mut interner = SortInterner {
-        words: &mut *search.sorts,
-        counts: counts_of(lengths),
-    };
+    let mut interner = SortInterner { words, counts };
     let sort = resolver.resolve(&mut interner, id)?;
-    search.lengths = with_counts(lengths, interner.counts);
+    search.lengths = lengths.with_counts(interner.counts);
     Ok(sort)
 }
 
 // The join of two sorts. It does not look at nodes, whatever they are.
-// kept: beside sort_of and intern_container: over a closure, the contract of what it leaves is longer than these lines.
+// kept: beside sort_of and intern_container: one function over a closure would ask, for each of resolve, join and
+// generic, that the closure answers by that definition from the words and counts that it is given, whatever they are.
 fn join_of(search: &mut Search<'_>, lhs: SortId, rhs: SortId) -> Result<Option<SortId>, NoRoom>
     requires { Asked search.old.sorts.now search.old.lengths.sorts search.old.lengths.entries lhs.0
         rhs.0 }
@@ -80,12 +79,11 @@ fn join_of(search: &mut Search<'_>, lhs: SortId, rhs: SortId) -> Result<Option<S
         ≡ join_in lhs.0 rhs.0 (lent search.old.sorts.now ns search.old.lengths))
         × OnlySorts search.old search.new }
 {
-    let mut interner = SortInterner {
-        words: &mut *search.sorts,
-        counts: counts_of(search.lengths),
-    };
+    let counts = Counts::from(search.lengths);
+    let words = &mut *search.sorts;
+    let mut interner = SortInterner { words, counts };
     let sort = join(&mut interner, lhs, rhs)?;
-    search.lengths = with_counts(search.lengths, interner.counts);
+    search.lengths = search.lengths.with_counts(interner.counts);
     Ok(sort)
 }
 
@@ -187,7 +185,6 @@ fn put_heads(sorts: &Sorts, ids: &[SortId], lub: SortId, scratch: &mut [u16], me
 // The sort on which sorts agree, with the components that it costs.
 fn agreement(search: &mut Search<'_>, ids: &[SortId], at: Branch) -> Result<Option<SortId>, NoRoom>
     requires { Resolved search.old.sorts.now search.old.lengths (sort_numbers ids.now)
-        × (scratch_used ≤ length search.old.scratch.now)
         × (at.measure + length ids.now ≤ max_components) }
     ensures { ((ns : List ℕ)
         → AgreesOn ns search.old.scratch.now at (length ids.now)
@@ -202,7 +199,7 @@ fn agreement(search: &mut Search<'_>, ids: &[SortId], at: Branch) -> Result<Opti
     let Some(lub) = join_all(search, *first, rest)? else {
         return Ok(None);
     };
-    let counts = counts_of(search.lengths);
+    let counts = Counts::from(search.lengths);
     let words = &mut *search.sorts;
     let sorts = Sorts { words, counts };
     if !all_materializable(&sorts, ids, lub) {

@@ -45,11 +45,6 @@ module _ (a b n : ℕ) (sc : List ℕ) (apart : a + n ≤ b) (inside : b + n ≤
       ∙ (ap (take n) (drop_at (take b sc) (part a n sc ++ drop (b + n) sc) b b_long) ∙ take_at (part a n sc)
       (drop (b + n) sc) n (length_part a n sc (omega (arith, apart, inside))))
 
-  pub copied_before : (j : ℕ) → j < b → get_or (copied a b n sc) j 0 ≡ get_or sc j 0
-  copied_before j l =
-      ap (λ (xs : List ℕ). get_or xs j 0) split
-      ∙ (get_or-append (take b sc) (part a n sc ++ drop (b + n) sc) 0 j (omega (arith, l, b_long)) ∙ get_or-take b sc j 0 l)
-
 -- What is kept.
 pub kept_by_two : (z : Sizes) (sc one two : List ℕ) → one ≡ copy_within sc measure_at (measure_at + z.components) best_measure_at
     → two ≡ copy_within one choices_at (choices_at + z.disjunctions) best_choices_at → two ≡ kept_as_best z sc

@@ -72,9 +72,6 @@ module _ (ws ns bs sc ls : List ℕ) (z : Sizes) (k : State) (e : Branch) (p : A
   few_choices : e.choices ≤ max_constraints
   few_choices = omega (arith, p.choices, p.sized.few_disjunctions)
 
-  pub rank_asked : (e.measure ≤ max_components) × (scratch_used ≤ length sc)
-  rank_asked = (few_components, p.long)
-
   pub readable : Readable ws ns bs sc ls z.default z.exprs k.lengths
   unfolding problem_in
   readable = record { ready = p.ready; default = p.suits.default; placed = p.suits.exprs; few = p.sized.exprs; long = p.long }

@@ -7,7 +7,7 @@ ghost use Rattle.std.specs.Prelude.{◌≡◌, ◌+◌, ◌≤◌, length};
 ghost use Rattle.inference.specs.Constraints.{max_components};
 ghost use Rattle.inference.specs.Search.{replace as replaceLeaf, leaf as leafNext};
 ghost use Rattle.inference.specs.SolveEntry.{nothing_met};
-ghost use Rattle.search_state.specs.Inner.Memory.{problem_in, best_sorts_at, scratch_used};
+ghost use Rattle.search_state.specs.Inner.Memory.{problem_in, best_sorts_at};
 ghost use Rattle.search_state.specs.Inner.Leaves.{ranking_of, Extracts};
 ghost use Rattle.search_state.specs.Inner.Solving.{AtLeaf, Comparable, Comes, KeepsRest, has_best, state_of, lent_of};
 ghost use Rattle.search_leaf.specs.Inner.Leaf.{ranked_by, IsDominated, Readable, sorts_from};
@@ -26,7 +26,7 @@ use words::{put, word};
 // How the components of the branch compare with as many of the incumbent's, from the front: the first that differ
 // decide. Where there is no incumbent, they are less.
 fn rank(search: &Search<'_>, at: Branch) -> Ordering
-    requires { (at.measure ≤ max_components) × (scratch_used ≤ length search.now.scratch.now) }
+    requires { at.measure ≤ max_components }
     ensures { ranking_of result
         ≡ ranked_by (has_best search.now.best) search.now.scratch.now at.measure }
 {

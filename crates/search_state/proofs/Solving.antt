@@ -64,9 +64,6 @@ module _ (s t : Search) (e : Branch) where
 
   -- all but the bindings and the scratch
   module _ (p : OnlyBinds s t) where
-    pub problem_bound : SameProblem s t
-    problem_bound = ap (λ (l : Lists). l.given) p
-
     pub asked_bound : (more : ℕ) (xs : List ℕ) (next : Next)
         → SearchingIn s.sorts.now s.nodes.now t.binds.now t.scratch.now s.lists.now s.sizes (state_of s) e more xs next
         → Searching t e more xs next
@@ -86,12 +83,6 @@ module _ (s t : Search) (e : Branch) where
   module _ (p : OnlySorts s t) where
     pub kept_sorts : KeepsRest s t
     kept_sorts = ap (λ (x : Stays). x.kept) p
-
-    pub asked_sorts : (more : ℕ) (xs : List ℕ) (next : Next)
-        → SearchingIn t.sorts.now s.nodes.now s.binds.now s.scratch.now s.lists.now s.sizes (state_of t) e more xs next
-        → Searching t e more xs next
-    asked_sorts more xs next a =
-        subst (λ (x : Stays). SearchingIn t.sorts.now x.nodes x.kept.binds x.scratch x.kept.given.lists x.kept.given.sizes (state_of t) e more xs next) (sym p) a
 
     pub tried_sorts : (pairs : Pairs) (step : Step) (next : Next) (u : Search) (r : Result Bool Full)
         → Comes t e (λ ls z. trying ls z t.scratch.now e pairs step next) u r

@@ -176,6 +176,3 @@ module _ (W : Lent) (c : CheckedLent W) (o : ComplexSort) (s : ℕ) (l : s < W.l
   pub no_room_for_container_is_15 : (d : ℕ) (W' : Lent) → intern_container o s W ≡ no_room d W' → (d ≡ 15) × Grows W W'
   no_room_for_container_is_15 d W' e =
       let m = subst (Each Any (λ U. ⊥) (λ f U. (f ≡ 15) × (U ≡ W))) e ends in (m.0, subst (Grows W) (sym m.1) (grows_refl W c))
-
-  pub container_always_listed : {A : Type 0} (W' : Lent) → intern_container o s W ≡ no_list W' → A
-  container_always_listed W' e = absurd (subst (Each Any (λ U. ⊥) (λ f U. (f ≡ 15) × (U ≡ W))) e ends)

@@ -1,6 +1,9 @@
 // The state of the search of merc's inference.rs: the types that its definitions, contracts and code speak of.
 #![tactic(auto)]
 
+ghost use Rattle.std.specs.Prelude.{◌≤◌, length};
+ghost use Rattle.search_state.specs.Inner.Memory.{scratch_used};
+
 use resolved_sort::SortId;
 use unification::{InferSortId, Lengths};
 
@@ -25,8 +28,12 @@ pub struct Incumbent {
 }
 
 // What the search works on: the lent sorts, nodes and bindings with how much of them is in use, the scratch, the lists
-// of the problem with their sizes, and the incumbent.
+// of the problem with their sizes, and the incumbent. The scratch has room for its blocks at all times.
 // kept: free functions take it, since several crates work on it and none can write an impl for another's struct.
+// kept: four lent slices and no Storage: tried, and the words of a &mut slice in a struct within this one are lost to
+// every fact where that struct's borrow ends.
+// kept: other facts (Searching, AtLeaf, Sized, CanTry, CanHandOut) are asked for by contracts, since each speaks of a
+// branch, a step or an output as well, or holds only at some points of a search.
 #[derive(Drop)]
 pub struct Search<'a> {
     pub sorts: &'a mut [u16],
@@ -37,6 +44,7 @@ pub struct Search<'a> {
     pub sizes: Sizes,
     pub lengths: Lengths,
     pub best: Option<Incumbent>,
+    ghost room: { scratch_used ≤ length scratch.now },
 }
 
 // What a branch has taken on: how many variables are on the trail, and how many components and choices there are.

@@ -399,8 +399,8 @@ module _ (ls : List ℕ) (z : Sizes) (ws ns bs sc : List ℕ) (k : State) (e : B
 
   -- the room that the functions called ask for
   module _ (U : Unifies) (bs₁ sc₁ : List ℕ) (t : Found ℕ) (u : TriesPairs ws ns k.lengths U bs sc e.trail bs₁ sc₁ t) where
-    pub push_room : (e.measure + added_components s ≤ 256) × (e.choices + added_choices s ≤ 256) × (scratch_used ≤ length sc₁)
-    push_room = (room.0, room.1, omega (arith, S.long, u.long))
+    pub push_room : (e.measure + added_components s ≤ 256) × (e.choices + added_choices s ≤ 256)
+    push_room = room
 
     pub undo_room : (d : ℕ) → trail_after e.trail t ≡ d → (sc₃ : List ℕ) → length sc₃ ≡ length sc → (e.trail ≤ d) × (d ≤ length sc₃)
     undo_room d q sc₃ l = let x = on_the_trail U bs₁ sc₁ t u in (omega (arith, x.0, q), omega (arith, x.1, q, l, S.long))

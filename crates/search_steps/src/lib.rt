@@ -13,9 +13,10 @@ ghost use Rattle.unifier.specs.Unifier.{graph, bindings, CanTry, Keeps, Leaves};
 ghost use Rattle.related_sorts.specs.Listed.{places};
 ghost use Rattle.related_sorts.specs.Arena.{world, ReadyIn, PlacedIn, Keeps as KeepsArena};
 ghost use Rattle.related_sorts.specs.Inner.Ranges.{SixThere};
+ghost use Rattle.unification.specs.Inner.Making.{lent};
 ghost use Rattle.inference.specs.Search.{lit_component};
 ghost use Rattle.inference.specs.Constraints.{max_constraints, max_components};
-ghost use Rattle.search_state.specs.Inner.Memory.{trail_words, scratch_used};
+ghost use Rattle.search_state.specs.Inner.Memory.{trail_words};
 ghost use Rattle.search_state.specs.Inner.Leaves.{with_nodes, try_at};
 ghost use Rattle.search_state.specs.Inner.Leaves.{widenings, FindsWidenings, lit_number, lit_at, unify_pairs};
 ghost use Rattle.search_state.specs.Inner.Leaves.{PairsPlaced, trail_after, is_made, TriesPairs, step_words, added_components, added_choices};
@@ -23,10 +24,10 @@ ghost use Rattle.search_state.specs.Inner.Leaves.{branch_after};
 ghost use Rattle.search_state.specs.Inner.Solving.{KeepsRest, OnlyBinds, OnlyScratch, OnlySorts, lent_of};
 ghost use Rattle.search_steps.specs.Inner.Steps.{pairs_of, lit_row, LitTries, InternsContainer, ListedTries};
 
-use infer_nodes::{Bindings, Places, counts_of, with_counts};
+use infer_nodes::{Bindings, Places};
 use inference::LitKind;
 use related_sorts::{Arena, Listed};
-use resolved_sort::{ComplexSort, NoRoom, ResolvedSort, Sort, SortId};
+use resolved_sort::{ComplexSort, Counts, NoRoom, ResolvedSort, Sort, SortId};
 use search_state::{
     Branch, CHOICES_AT, LitAt, MEASURE_AT, Pairs, Search, Step, TRAIL_WORDS, Tries,
 };
@@ -86,8 +87,7 @@ fn unify_on(
 pub fn unify_pairs(search: &mut Search<'_>, base: u16, pairs: Pairs) -> Option<u16>
     requires { Trying search.old.sorts.now search.old.nodes.now search.old.binds.now
         (take trail_words search.old.scratch.now) search.old.lengths base
-        × PairsPlaced search.old.lengths pairs
-        × (scratch_used ≤ length search.old.scratch.now) }
+        × PairsPlaced search.old.lengths pairs }
     ensures { TriesPairs search.old.sorts.now search.old.nodes.now search.old.lengths
         (unify_pairs (graph_of search.old.sorts.now search.old.nodes.now search.old.lengths) pairs
         (binds_of search.old.binds.now search.old.lengths.variables))
@@ -123,8 +123,7 @@ pub fn roll_back(search: &mut Search<'_>, base: u16, count: u16)
 // What a step adds to a branch with so many variables on the trail.
 pub fn push(search: &mut Search<'_>, at: Branch, trail: u16, step: Step) -> Branch
     requires { (at.measure + added_components step ≤ max_components)
-        × (at.choices + added_choices step ≤ max_constraints)
-        × (scratch_used ≤ length search.old.scratch.now) }
+        × (at.choices + added_choices step ≤ max_constraints) }
     ensures { (search.new.scratch.now ≡ step_words step at search.old.scratch.now)
         × (result ≡ branch_after at trail step)
         × OnlyScratch search.old search.new }
@@ -245,7 +244,7 @@ pub fn lit_at(search: &Search<'_>, id: InferSortId, kind: LitKind) -> LitAt
     let bindings = Bindings { places, binds };
     match Place::from(bindings.shallow_normalize(id)) {
         Place::Sort(sort) => {
-            let counts = counts_of(lengths);
+            let counts = Counts::from(lengths);
             let sorts = Sorts { words, counts };
             lit_at_row(sorts.get(sort), kind)
         }
@@ -297,12 +296,11 @@ pub fn intern_container(
         search.new.sorts.now search.new.lengths result
         × OnlySorts search.old search.new }
 {
-    let mut interner = SortInterner {
-        words: &mut *search.sorts,
-        counts: counts_of(search.lengths),
-    };
+    let counts = Counts::from(search.lengths);
+    let words = &mut *search.sorts;
+    let mut interner = SortInterner { words, counts };
     let id = interner.generic(op, element)?;
-    search.lengths = with_counts(search.lengths, interner.counts);
+    search.lengths = search.lengths.with_counts(interner.counts);
     Ok(id)
 }
 
@@ -344,6 +342,33 @@ fn widenings_in(
     Ok(Some(listed_tries(narrower, lhs, false)))
 }
 
+// The same over lists apart, with how much of them is in use then.
+// kept: the parts of a Search apart, since of an Arena made in `widenings_of` its two lists are lost to every fact as soon
+// as the Search, which holds a ghost fact, is written again (tried with locals and without, and in a block).
+fn widenings_over(
+    sorts: &mut [u16],
+    nodes: &mut [u16],
+    binds: &[u16],
+    lengths: Lengths,
+    lhs: InferSortId,
+    rhs: InferSortId,
+) -> (Result<Option<Tries>, Full>, Lengths)
+    requires { Ready sorts.old nodes.old binds.now lengths
+        × Placed lengths lhs.0
+        × Placed lengths rhs.0
+        × SixThere lengths }
+    ensures { FindsWidenings sorts.new nodes.new result.1 result.0
+        (widenings (binds_of binds.now lengths.variables) lhs.0 rhs.0 (lent sorts.old nodes.old lengths)) }
+{
+    let mut arena = Arena {
+        sorts,
+        nodes,
+        lengths,
+    };
+    let tries = widenings_in(&mut arena, binds, lhs, rhs);
+    (tries, arena.lengths)
+}
+
 // The tries of a widening of `lhs` to `rhs` after that without one: each wider sort of `lhs` against `rhs`, nearest
 // first; or, where `lhs` has no list, `lhs` against each narrower sort of `rhs`. An empty list is a list.
 // So a concrete `lhs` is upcast, or a concrete `rhs` met from below; two free variables admit no enumeration.
@@ -362,13 +387,11 @@ pub fn widenings_of(
         × KeepsRest search.old search.new
         × (search.new.scratch.now ≡ search.old.scratch.now) }
 {
+    let lengths = search.lengths;
+    let sorts = &mut *search.sorts;
+    let nodes = &mut *search.nodes;
     let binds = &mut *search.binds;
-    let mut arena = Arena {
-        sorts: &mut *search.sorts,
-        nodes: &mut *search.nodes,
-        lengths: search.lengths,
-    };
-    let tries = widenings_in(&mut arena, binds, lhs, rhs);
-    search.lengths = arena.lengths;
+    let (tries, lengths) = widenings_over(sorts, nodes, binds, lengths, lhs, rhs);
+    search.lengths = lengths;
     tries
 }

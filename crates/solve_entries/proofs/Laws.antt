@@ -160,6 +160,3 @@ module _ (p : Problem) (ws ns bs sc : List ℕ) (h : Handout) where
 module _ (J : Call) (r : Solved) (ws ns bs sc ts ms hs : List ℕ) (e : solve_left r ws ns bs sc ts ms hs ≡ solve_entry J) where
   pub answer_told : SolvedWithin r
   answer_told = subst SolvedWithin (sym (ap (λ (L : SolveLeft). L.answer) e)) (entry_told J)
-
-  pub answer_packed : (n : ℕ) → n ≡ pack_solved r → packed_solve n ws ns bs sc ts ms hs ≡ pack_solve_left (solve_entry J)
-  answer_packed n q = ap (λ x. packed_solve x ws ns bs sc ts ms hs) q ∙ ap pack_solve_left e

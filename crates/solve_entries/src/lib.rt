@@ -43,7 +43,8 @@ fn run(
 }
 
 // Solve on a problem that passed its checks.
-// kept: four lent slices apart, here and in solve, since a Search takes each of them and holds more.
+// kept: four lent slices apart, here and in solve, and no Storage: within a Search it was tried, and the words of its
+// slices are lost where the borrow of the Search ends; out of a Storage the Search would take each of them again.
 fn solve_passed(
     sorts: &mut [u16],
     nodes: &mut [u16],

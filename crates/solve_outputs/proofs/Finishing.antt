@@ -24,7 +24,8 @@ use Rattle.search_state.specs.declared.Incumbent.{Incumbent}
 use Rattle.search_state.specs.declared.Search.{Search}
 use Rattle.search_state.specs.Inner.Leaves.{code_of}
 use Rattle.search_state.specs.Inner.Memory.{problem_in, chosen_exprs, choices_of, best_sorts_at, best_measure_at, best_choices_at, candidate_of, best_of}
-use Rattle.search_state.specs.Inner.Solving.{Stays, OnlySorts, SameProblem, given_of}
+use Rattle.search_state.specs.Inner.Solving.{Stays, OnlySorts, SameProblem}
+use Rattle.solve_outputs.specs.Handout.{solve_left_with}
 use Rattle.words.specs.Words.{part}
 use Rattle.words.proofs.Parts.{length_part}
 use Rattle.solve_checks.specs.declared.Given.{Given}
@@ -33,7 +34,7 @@ use Rattle.solve_checks.specs.Inner.Calls.{call_for, constraint_rows}
 use Rattle.solve_outputs.specs.Inner.Begin.{sizes_of}
 use Rattle.solve_outputs.specs.declared.Handout.{Handout}
 use Rattle.solve_outputs.specs.Inner.Finish.{Answered, answered, settled, solve_left_by, handed_out, Handable}
-use Rattle.solve_outputs.specs.Inner.Handing.{counts_then, told_in, left_in, handing, judging, settling, tidied}
+use Rattle.solve_outputs.specs.Inner.Handing.{counts_then, told_in, left_in, handing, judging, settling, Tidied}
 
 pub sizes_counted : (p : Problem) (n d : ℕ) → n ≡ components (constraint_rows p.constraints.now p.given.constraints)
     → d ≡ length (disjunctions (constraint_rows p.constraints.now p.given.constraints))
@@ -133,12 +134,21 @@ module _ (s : Search) (names : List BaseName) (h : Handout) (k : Lengths) (r : R
 
 -- all lent memory
 module _ (s m u : Search) (names : List BaseName) (h h' : Handout) (k : Lengths) (r : Result Bool Full) (a : Solved)
-    (only : OnlySorts s m) (t : u ≡ tidied k m) where
+    (only : OnlySorts s m) (t : Tidied k m u) where
   pub all_left : settled m.sorts.now (told_in a h') ≡ settling s names h k r
       → left_in a u h' ≡ solve_left_by k s.nodes.now s.binds.now s.scratch.now (settling s names h k r)
   all_left e =
-      ap (λ (u : Search). left_in a u h') t
+      (λ i. solve_left_with a (t.0 i).now (t.1 i).now (t.2 i).now (t.3 i).now h')
       ∙ (λ i. solve_left_by k (only i).nodes (only i).kept.binds (only i).scratch (e i))
 
   pub problem_stays : SameProblem s u
-  problem_stays = ap given_of t ∙ ap (λ (y : Stays). y.kept.given) only
+  problem_stays =
+      (λ i. record {
+        lists = (t.4 i).now;
+        sizes = t.5 i;
+        sorts = (t.0 i).ghost_name;
+        nodes = (t.1 i).ghost_name;
+        binds = (t.2 i).ghost_name;
+        scratch = (t.3 i).ghost_name;
+      })
+      ∙ ap (λ (y : Stays). y.kept.given) only

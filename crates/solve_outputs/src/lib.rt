@@ -12,7 +12,7 @@ ghost use Rattle.inference.specs.Names.{overload_in, name_kind, name_sort};
 ghost use Rattle.inference.specs.SolveChecks.{typing_words, choice_words, disjunction_for};
 ghost use Rattle.inference.specs.SolveEntry.{nodes_given_back, typing_rows, choice_rows, written_over};
 ghost use Rattle.search_state.specs.Inner.Memory.{overloads_at, problem_in, rest_from, chosen_exprs, choices_of};
-ghost use Rattle.search_state.specs.Inner.Memory.{best_sorts_at, best_measure_at, best_choices_at, scratch_used};
+ghost use Rattle.search_state.specs.Inner.Memory.{best_sorts_at, best_measure_at, best_choices_at};
 ghost use Rattle.search_state.specs.Inner.Memory.{candidate_of};
 ghost use Rattle.search_state.specs.Inner.Searching.{Sized};
 ghost use Rattle.search_state.specs.Inner.Solving.{OnlySorts, SameProblem};
@@ -26,12 +26,11 @@ ghost use Rattle.solve_outputs.specs.Inner.Begin.{CountsFit, RowsFit, sizes_of, 
 ghost use Rattle.solve_outputs.specs.Packed.{pack_solved, CountsWithin, VerdictWithin, SolvedWithin};
 ghost use Rattle.solve_outputs.specs.Inner.Counts.{pack_counts};
 ghost use Rattle.solve_outputs.specs.Inner.Finish.{solve_left_by, settled, SortsReturnable, NodesReturnable};
-ghost use Rattle.solve_outputs.specs.Inner.Handing.{names_read, told_in, left_in, handing, judging, settling, tidied};
+ghost use Rattle.solve_outputs.specs.Inner.Handing.{names_read, told_in, left_in, handing, judging, settling, Tidied};
 ghost use Rattle.solve_outputs.specs.Inner.Handing.{CanHandOut};
 ghost use Rattle.solve_outputs.specs.Handout.{SameHandout};
 
 use entry_answers::pack;
-use infer_nodes::counts_of;
 use inference::{
     CHOICE_WORDS, Constraint, ExprId, NAME_WORDS, NameKind, NameTarget, OVERLOAD_WORDS, Outputs,
     TYPING_WORDS, Verdict,
@@ -80,8 +79,7 @@ fn clear_nodes(nodes: &mut [u16], node_count: u16, entry_count: u16)
 // The measure handed out.
 fn write_measure(measure: &mut [u16], search: &Search<'_>)
     requires { (search.now.sizes.components ≤ max_components)
-        × (search.now.sizes.components ≤ length measure.old)
-        × (scratch_used ≤ length search.now.scratch.now) }
+        × (search.now.sizes.components ≤ length measure.old) }
     ensures { measure.new
         ≡ written_over (part best_measure_at search.now.sizes.components search.now.scratch.now)
         measure.old }
@@ -119,8 +117,7 @@ fn write_choice(choices: &mut [u16], scratch: &[u16], says: Constraint, k: u16) 
 // The choices handed out, in the order of the constraints.
 fn write_choices(choices: &mut [u16], search: &Search<'_>)
     requires { Sized (problem_in search.now.lists.now search.now.sizes) search.now.sizes
-        × (choice_words * search.now.sizes.disjunctions ≤ length choices.old)
-        × (scratch_used ≤ length search.now.scratch.now) }
+        × (choice_words * search.now.sizes.disjunctions ≤ length choices.old) }
     ensures { choices.new
         ≡ written_over (choice_rows (choices_of (chosen_exprs search.now.lists.now search.now.sizes)
         (part best_choices_at search.now.sizes.disjunctions search.now.scratch.now)))
@@ -239,8 +236,7 @@ fn write_chosen_names(typing: &mut [u16], search: &Search<'_>)
 // The typing handed out: of each expression its sort, and its name, by a choice rather than a base name.
 fn write_typing(typing: &mut [u16], search: &Search<'_>, names: &BaseNames<'_>)
     requires { Sized (problem_in search.now.lists.now search.now.sizes) search.now.sizes
-        × (typing_words * search.now.sizes.exprs ≤ length typing.old)
-        × (scratch_used ≤ length search.now.scratch.now) }
+        × (typing_words * search.now.sizes.exprs ≤ length typing.old) }
     ensures { typing.new
         ≡ written_over (typing_rows (problem_in search.now.lists.now search.now.sizes) (names_read names.now.words.now names.now.count)
         (choices_of (chosen_exprs search.now.lists.now search.now.sizes)
@@ -299,6 +295,8 @@ pub fn nothing_taken() -> Branch
 }
 
 // Hands the incumbent out.
+// kept: handout, search and names go together through four functions, apart: two of them read the search and two change
+// it, so that one struct of the three would not serve all.
 fn hand_out(handout: &mut Handout<'_>, search: &Search<'_>, names: &BaseNames<'_>) -> Outputs
     requires { CanHandOut search.now handout.old }
     ensures says { told_in (Ok (Typing result)) handout.new ≡ handing search.now (names_read names.now.words.now names.now.count) handout.old }
@@ -308,7 +306,7 @@ fn hand_out(handout: &mut Handout<'_>, search: &Search<'_>, names: &BaseNames<'_
     write_measure(handout.measure, search);
     write_choices(handout.choices, search);
     Outputs {
-        counts: counts_of(search.lengths),
+        counts: Counts::from(search.lengths),
         components: search.sizes.components,
         choices: search.sizes.disjunctions,
     }
@@ -320,7 +318,7 @@ fn judge(handout: &mut Handout<'_>, search: &Search<'_>, names: &BaseNames<'_>) 
     ensures says { told_in (Ok result) handout.new ≡ judging search.now (names_read names.now.words.now names.now.count) handout.old }
     ensures same_reference { SameHandout handout.old handout.new }
 {
-    let counts = counts_of(search.lengths);
+    let counts = Counts::from(search.lengths);
     let Some(incumbent) = search.best else {
         return Verdict::NoTyping(counts);
     };
@@ -356,7 +354,7 @@ fn settle(
 // Zero past the nodes that the call began with, and in the scratch.
 fn tidy(search: &mut Search<'_>, entry: Lengths)
     requires { NodesReturnable search.old.nodes.now entry }
-    ensures { search.new ≡ tidied entry search.old }
+    ensures { Tidied entry search.old search.new }
 {
     clear_nodes(search.nodes, entry.nodes, entry.arguments);
     search.scratch.fill(0);

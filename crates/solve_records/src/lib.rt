@@ -63,6 +63,7 @@ fn at_most(n: usize) -> usize
 
 // The words of the records, up to the ceiling, and zeros after them. The array goes by value, so
 // that no caller has to lend it.
+// kept: by number, as the words of a record stand: its number tells where they go, and where the ceiling is.
 fn unpack(records: &[OverloadRecord]) -> [u16; UNPACKED_WORDS]
     ensures { result ≡ unpacked records.now }
 {

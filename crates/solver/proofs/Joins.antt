@@ -111,9 +111,6 @@ module _ (ls : List ℕ) (z : Sizes) (ws ns bs sc : List ℕ) (k : State) (e : B
   room : e.measure + run.count ≤ max_components
   room = omega (arith, S.measure, S.sized.few_components)
 
-  pub agreeing : Agreeing ws ns bs sc ls k.lengths e run
-  agreeing = record { ready = S.ready; placed = all_placed; inside = omega (arith, F.inside, S.sized.sources); long = S.long; room = room }
-
   -- the sources in turn, after the components that they cost
   in_turn : (ws' ns' bs' sc' : List ℕ) (k' : State) → Searching ws' ns' bs' sc' ls z k' e run.count [] (Solve i)
       → SourcesFine (lent ws' ns' k'.lengths) ls z t.0 run.start (run.start + run.count)
@@ -279,20 +276,6 @@ module _ (ls : List ℕ) (z : Sizes) (ws ns bs sc : List ℕ) (k : State) (e : B
     (S : Searching ws ns bs sc ls z k e 0 [] (Source t j n i)) where
   abbrev all : Going (Unit {0}) nothing_met (problem_in ls z)
   all = sequence (Unit {0}) nothing_met (problem_in ls z) (rows_from (source_at ls) j (n - j)) t.0 (solve_from ls z i)
-
-  pub then_asked : n ≤ j → Searching ws ns bs sc ls z k e 0 [] (Solve i)
-  then_asked l =
-      record {
-        ready = S.ready;
-        suits = S.suits;
-        sized = S.sized;
-        long = S.long;
-        trail = S.trail;
-        fine = S.fine.0;
-        measure = omega (arith, S.measure, l);
-        choices = S.choices;
-        few = S.few;
-      }
 
   pub seq_done : n ≤ j → (ws₁ ns₁ bs₁ sc₁ : List ℕ) (r : Answer) → Comes ls z ws ns bs sc k e (solve_from ls z i) ws₁
       ns₁ bs₁ sc₁ r → Comes ls z ws ns bs sc k e all ws₁ ns₁ bs₁ sc₁ r

@@ -64,9 +64,6 @@ module _ (ls : List ℕ) (z : Sizes) (ws ns bs sc : List ℕ) (k : State) (e : B
   by_domination [] = refl
   by_domination (c ∷ cs) = refl
 
-  pub comparable : Comparable sc z e
-  comparable = record { long = S.long; few = omega (arith, S.measure); fits = S.sized.few_components }
-
   module _ (b : Bool) (q : b ≡ dominated_by (Unit {0}) nothing_met P (part measure_at e.measure sc) (best_of ls z sc k.best k.tied)) where
     to_cond : (cs : List Constraint) → cond b (missed w) (body cs path w) ≡ solve (Unit {0}) nothing_met P cs path w
     to_cond cs = ap (λ x. cond x (missed w) (body cs path w)) q ∙ by_domination cs
@@ -193,45 +190,6 @@ module _ (ls : List ℕ) (z : Sizes) (ws ns bs sc : List ℕ) (k : State) (e : B
         → Comes ls z ws ns bs sc k e goal ws₁ ns₁ bs₁ sc₁ r
     unfolding step next_of rows_from
     step_readings x y s q d = rw q d
-
-  pub sub_placed : (x y : InferSortId) → c ≡ Sub x y → Placed k.lengths x.0 × Placed k.lengths y.0
-  sub_placed x y q = go (Sub x y) (listed_as (Sub x y) q) refl
-    where
-      go : (d : Constraint) → ListedConstraint U Q d → d ≡ Sub x y → Placed k.lengths x.0 × Placed k.lengths y.0
-      go _ (sub_listed l r a b) h = (
-        subst (λ (p : InferSortId). Placed k.lengths p.0) (let m : l ≡ x = cc in m)
-            a,
-        subst (λ (p : InferSortId). Placed k.lengths p.0) (let m : r ≡ y = cc in m) b,
-      )
-      go _ (lit_listed p kind a) h = absurd (let m : ◌≡◌ {A = ℕ} 0 1 = cc in omega arith)
-      go _ (disjunction_listed x p run a l b) h = absurd (let m : ◌≡◌ {A = ℕ} 0 1 = cc in omega arith)
-      go _ (comprehension_listed body node element a b l) h = absurd (let m : ◌≡◌ {A = ℕ} 0 1 = cc in omega arith)
-      go _ (join_listed run t a l b) h = absurd (let m : ◌≡◌ {A = ℕ} 0 1 = cc in omega arith)
-
-  pub lit_placed : (x : InferSortId) (kind : LitKind) → c ≡ Lit x kind → Placed k.lengths x.0
-  lit_placed x kind q = go (Lit x kind) (listed_as (Lit x kind) q) refl
-    where
-      go : (d : Constraint) → ListedConstraint U Q d → d ≡ Lit x kind → Placed k.lengths x.0
-      go _ (sub_listed l r a b) h = absurd (let m : ◌≡◌ {A = ℕ} 0 1 = cc in omega arith)
-      go _ (lit_listed p kind a) h = subst (λ (p : InferSortId). Placed k.lengths p.0) (let m : p ≡ x = cc in m) a
-      go _ (disjunction_listed x p run a l b) h = absurd (let m : ◌≡◌ {A = ℕ} 0 1 = cc in omega arith)
-      go _ (comprehension_listed body node element a b l) h = absurd (let m : ◌≡◌ {A = ℕ} 0 1 = cc in omega arith)
-      go _ (join_listed run t a l b) h = absurd (let m : ◌≡◌ {A = ℕ} 0 1 = cc in omega arith)
-
-  pub readings_placed : (x y : InferSortId) (s : SortId) → c ≡ Comprehension x y s
-      → Placed k.lengths x.0 × Placed k.lengths y.0 × (s.0 < k.lengths.sorts)
-  readings_placed x y s q = go (Comprehension x y s) (listed_as (Comprehension x y s) q) refl
-    where
-      go : (d : Constraint) → ListedConstraint U Q d → d ≡ Comprehension x y s → Placed k.lengths x.0 × Placed k.lengths y.0 × (s.0 < k.lengths.sorts)
-      go _ (sub_listed l r a b) h = absurd (let m : ◌≡◌ {A = ℕ} 0 1 = cc in omega arith)
-      go _ (lit_listed p kind a) h = absurd (let m : ◌≡◌ {A = ℕ} 0 1 = cc in omega arith)
-      go _ (disjunction_listed x p run a l b) h = absurd (let m : ◌≡◌ {A = ℕ} 0 1 = cc in omega arith)
-      go _ (comprehension_listed body node element a b l) h = (
-        subst (λ (p : InferSortId). Placed k.lengths p.0) (let m : body ≡ x = cc in m) a,
-        subst (λ (p : InferSortId). Placed k.lengths p.0) (let m : node ≡ y = cc in m) b,
-        subst (λ (p : SortId). p.0 < k.lengths.sorts) (let m : element ≡ s = cc in m) l,
-      )
-      go _ (join_listed run t a l b) h = absurd (let m : ◌≡◌ {A = ℕ} 0 1 = cc in omega arith)
 
   -- the overloads of a disjunction, as rows
   module _ (x : ExprId) (p : InferSortId) (run : Run) (q : c ≡ Disjunction x p run) where

@@ -154,13 +154,3 @@ sort_placed k l p h = rw (lt-ltb p max_sorts (omega (arith, l, h)), lt-ltb p k.s
 pub fixed_placed : (k : Lengths) → 6 ≤ k.sorts → (p : ℕ) → p < 6 → Placed k p
 unfolding is_place
 fixed_placed k l p h = rw (lt-ltb p max_sorts (omega (arith, h)), lt-ltb p k.sorts (omega (arith, l, h)))
-
--- the last reading's body, and the container of all readings but the first
-pub other_body : (i : ℕ) → (i ≡ 0 → ⊥) → (i ≡ 1 → ⊥) → 2 ≡ reading_body i
-other_body zero a b = absurd (a refl)
-other_body (suc zero) a b = absurd (b refl)
-other_body (suc (suc i)) a b = refl
-
-pub other_op : (i : ℕ) → (i ≡ 0 → ⊥) → ComplexSort.Bag ≡ reading_op i
-other_op zero a = absurd (a refl)
-other_op (suc i) a = refl

@@ -61,6 +61,8 @@ const READINGS: [Reading; 3] = [
 ];
 
 // Solves the constraints from `index` on; answers whether any leaf was reached below this point.
+// kept: the search, the branch and what comes next apart in the functions of this cycle: the first is lent on as it is,
+// the branch is a value that each try changes, and what comes next stays through tries and changes between calls.
 #[cycle(search)]
 pub fn solve(search: &mut Search<'_>, at: Branch, index: u16) -> Result<bool, Full>
     requires { Searching search.old at 0 [] (Solve index) }
@@ -302,6 +304,7 @@ fn solve_lit(
 }
 
 // Tries in order, up to the first that is found.
+// kept: by number, since the component of a try is its number from `first` on, and `ids` has places past the last try.
 #[cycle(search)]
 fn tries(search: &mut Search<'_>, at: Branch, t: Tries, next: Next) -> Result<bool, Full>
     requires { Searching search.old at 1 [] next × TriesFine (lent_of search.old) t 0 }

@@ -34,7 +34,7 @@ agreement-requires c =
     let k = c.resolve_sources.ensures.1 in
     let r = law.resolved _ _ _ _ _ _ _ _ c.requires _ _ _ c.resolve_sources.result c.resolve_sources.ensures.0
     (c.in_ok-resolve_sources.was ∙ ap Ok c.if-not-branch.false) _ (take_sort_numbers c.args.sources.count c.resolve_sources.new.ids) in
-    (r, rw (ap (λ (x : Stays). x.scratch) k) c.requires.long, omega (arith, c.requires.room, law.so_many c.args.sources.count c.resolve_sources.new.ids (omega (arith, c.requires.inside, c.resolve_sources.auto.ids))))
+    (r, omega (arith, c.requires.room, law.so_many c.args.sources.count c.resolve_sources.new.ids (omega (arith, c.requires.inside, c.resolve_sources.auto.ids))))
 
 pub returns : goal.returns
 returns c =

@@ -44,13 +44,13 @@ pub invariant_of-sorts : goal.invariant_of-sorts
 invariant_of-sorts c =
     let r = law.still_resolved _ _ _ _ _ (law.first_listed c.args.ids.now _ _ c.in-Some.ensures.cases.0) c.args.search.now.scratch.now c.args.at 0
     c.requires.0 _ _ c.join_all.result c.join_all.ensures.0 _ (c.in_ok-lub.was ∙ ap Ok c.in-Some-2.is) in
-    record { checked = rw c.counts_of-counts.ensures r.0.checked }
+    record { checked = rw c.from-counts.ensures r.0.checked }
 
 pub all_materializable-requires : goal.all_materializable-requires
 all_materializable-requires c =
     let r = law.still_resolved _ _ _ _ _ (law.first_listed c.args.ids.now _ _ c.in-Some.ensures.cases.0) c.args.search.now.scratch.now c.args.at 0
     c.requires.0 _ _ c.join_all.result c.join_all.ensures.0 _ (c.in_ok-lub.was ∙ ap Ok c.in-Some-2.is) in
-    rw c.counts_of-counts.ensures (r.0.below, r.1)
+    rw c.from-counts.ensures (r.0.below, r.1)
 
 pub returns-then-not-all_materializable : goal.returns-then-not-all_materializable
 returns-then-not-all_materializable c =
@@ -58,7 +58,7 @@ returns-then-not-all_materializable c =
       λ ns. law.of_scratch _ _ (ap (λ (x : Stays). x.scratch) k) _ _ _ _ _ _ _
           (law.not_materializable _ _ _ _ _ (law.first_listed c.args.ids.now _ _ c.in-Some.ensures.cases.0) _ _ _ c.requires.0 _ _
           c.join_all.result c.join_all.ensures.0 _ (c.in_ok-lub.was ∙ ap Ok c.in-Some-2.is) _
-          (λ os. c.all_materializable.ensures (lent c.join_all.new.search.sorts.now os c.join_all.new.search.lengths) (refl, sym (ap (λ n. n.sorts) c.counts_of-counts.ensures))) c.if-not-all_materializable.true ns),
+          (λ os. c.all_materializable.ensures (lent c.join_all.new.search.sorts.now os c.join_all.new.search.lengths) (refl, sym (ap (λ n. n.sorts) c.from-counts.ensures))) c.if-not-all_materializable.true ns),
       ap (λ (x : Stays). x.kept) k,
       ap (λ (x : Stays). x.nodes) k,
     )
@@ -67,16 +67,16 @@ pub put_heads-requires : goal.put_heads-requires
 put_heads-requires c =
     let r = law.still_resolved _ _ _ _ _ (law.first_listed c.args.ids.now _ _ c.in-Some.ensures.cases.0) c.args.search.now.scratch.now c.args.at 0
     c.requires.0 _ _ c.join_all.result c.join_all.ensures.0 _ (c.in_ok-lub.was ∙ ap Ok c.in-Some-2.is) in
-    (rw c.counts_of-counts.ensures r.0.below, rw c.counts_of-counts.ensures r.1, omega (arith, c.requires.2))
+    (rw c.from-counts.ensures r.0.below, rw c.from-counts.ensures r.1, omega (arith, c.requires.1))
 
 pub returns : goal.returns
 returns c =
     let k = c.join_all.ensures.1 in (
       λ ns. law.they_agree _ _ _ _ _ (law.first_listed c.args.ids.now _ _ c.in-Some.ensures.cases.0) _ _ _ c.requires.0 _ _
           c.join_all.result c.join_all.ensures.0 _ (c.in_ok-lub.was ∙ ap Ok c.in-Some-2.is) _
-          (λ os. c.all_materializable.ensures (lent c.join_all.new.search.sorts.now os c.join_all.new.search.lengths) (refl, sym (ap (λ n. n.sorts) c.counts_of-counts.ensures))) c.if-not-all_materializable.false
-          (length_sort_numbers c.args.ids.now) (c.requires.1, c.requires.2) _
-          (rw (ap (λ (x : Stays). x.scratch) k, c.counts_of-counts.ensures) at c.put_heads.ensures) ns,
+          (λ os. c.all_materializable.ensures (lent c.join_all.new.search.sorts.now os c.join_all.new.search.lengths) (refl, sym (ap (λ n. n.sorts) c.from-counts.ensures))) c.if-not-all_materializable.false
+          (length_sort_numbers c.args.ids.now) (c.args.search.now.room, c.requires.1) _
+          (rw (ap (λ (x : Stays). x.scratch) k, c.from-counts.ensures) at c.put_heads.ensures) ns,
       ap (λ (x : Stays). x.kept) k,
       ap (λ (x : Stays). x.nodes) k,
     )

@@ -8,13 +8,13 @@ use Rattle.search_join.proofs.join_of.Goals as goal
 pub returns-in_err-sort : goal.returns-in_err-sort
 returns-in_err-sort c = (
   λ ns. law.made_moved c.join.new.sorts.words.now _ (search rules) _ _ _ _ (rw (no_room c.from_residual.result _ c.from_residual.ensures (record {}))
-      (law.join_ends _ ns _ _ c.counts_of.ensures _ _ _ _ _ c.join.ensures.left _ c.in_err-sort.was _)),
+      (law.join_ends _ ns _ _ c.from-counts.ensures _ _ _ _ _ c.join.ensures.left _ c.in_err-sort.was _)),
   refl,
 )
 
 pub returns : goal.returns
 returns c = (
-  λ ns. law.made_moved c.join.new.sorts.words.now c.search-2-1.given.0 (search rules) _ _ (Ok c.in_ok-sort.sort) _
-      (law.join_found _ ns _ _ c.counts_of.ensures _ _ _ _ _ c.join.ensures.left _ c.in_ok-sort.was _ c.with_counts-search.ensures),
+  λ ns. law.made_moved c.join.new.sorts.words.now _ (search rules) _ _ (Ok c.in_ok-sort.sort) _
+      (law.join_found _ ns _ _ c.from-counts.ensures _ _ _ _ _ c.join.ensures.left _ c.in_ok-sort.was _ c.with_counts-search.ensures),
   refl,
 )

@@ -8,13 +8,13 @@ use Rattle.search_join.proofs.sort_of.Goals as goal
 pub returns-in_err-sort : goal.returns-in_err-sort
 returns-in_err-sort c = (
   law.made_moved c.resolve.new.interner.words.now _ (search rules) _ _ _ _ (rw (no_room c.from_residual.result _ c.from_residual.ensures (record {}))
-      (law.sort_ends _ _ _ _ c.counts_of.ensures _ _ _ _ _ _ c.resolve.ensures.resolved _ c.in_err-sort.was _)),
+      (law.sort_ends _ _ _ _ c.from-counts.ensures _ _ _ _ _ _ c.resolve.ensures.resolved _ c.in_err-sort.was _)),
   refl,
 )
 
 pub returns : goal.returns
 returns c = (
-  law.made_moved c.resolve.new.interner.words.now c.search-2-1.given.0 (search rules) _ _ (Ok c.in_ok-sort.sort) _
-      (law.sort_found _ _ _ _ c.counts_of.ensures _ _ _ _ _ _ c.resolve.ensures.resolved _ c.in_ok-sort.was _ c.with_counts-search.ensures),
+  law.made_moved c.resolve.new.interner.words.now _ (search rules) _ _ (Ok c.in_ok-sort.sort) _
+      (law.sort_found _ _ _ _ c.from-counts.ensures _ _ _ _ _ _ c.resolve.ensures.resolved _ c.in_ok-sort.was _ c.with_counts-search.ensures),
   refl,
 )

@@ -11,7 +11,7 @@ returns-in_err-id c =
     let w = c.generic.new.self.words.now in (
       law.container_moved w _ (search rules) a.op a.element.0 a.search.now.sorts.now k k c.from_residual.result
           (law.any_error c.from_residual.result _ c.from_residual.ensures (InternsContainer a.op a.element.0 a.search.now.sorts.now k w k)
-          (law.no_room_for_container a.op a.element.0 a.search.now.sorts.now k _ c.counts_of.ensures _ _ c.generic.result
+          (law.no_room_for_container a.op a.element.0 a.search.now.sorts.now k _ c.from-counts.ensures _ _ c.generic.result
           c.generic.ensures.interned c.requires.0 _ c.in_err-id.was)),
       refl,
     )
@@ -21,7 +21,7 @@ returns c =
     let a = c.args in
     let k = a.search.now.lengths in (
       law.container_moved c.generic.new.self.words.now _ (search rules) a.op a.element.0 a.search.now.sorts.now k _ _
-          (law.container_found a.op a.element.0 a.search.now.sorts.now k _ c.counts_of.ensures _ _ c.generic.result
+          (law.container_found a.op a.element.0 a.search.now.sorts.now k _ c.from-counts.ensures _ _ c.generic.result
           c.generic.ensures.interned _ c.in_ok-id.was _ c.with_counts-search.ensures),
       refl,
     )

@@ -24,6 +24,14 @@ invariant_of-names c =
     let a = c.args in
     record { whole = law.names_lent a.problem.now a.sorts.now a.nodes.now a.binds.now a.scratch.now a.handout.now c.requires }
 
+pub invariant_of-search : goal.invariant_of-search
+invariant_of-search c =
+    let a = c.args in
+    record {
+      room = (law.search_asked a.problem.now a.sorts.now a.nodes.now a.binds.now a.scratch.now a.handout.now c.requires _ c.sizes_of-sizes.ensures _ c.pack.ensures _
+          c.lengths_of-lengths.ensures).0.long;
+    }
+
 pub run-requires : goal.run-requires
 run-requires c =
     let a = c.args in

@@ -6,7 +6,7 @@ use Rattle.solve_outputs.proofs.write_choices.Goals as goal
 pub loop-i-init : goal.loop-i-init
 loop-i-init c =
     let a = c.args in
-    choices_begin a.search.now.scratch.now a.choices.now a.search.now.lists.now a.search.now.sizes c.requires.0 c.requires.1 c.requires.2
+    choices_begin a.search.now.scratch.now a.choices.now a.search.now.lists.now a.search.now.sizes c.requires.0 c.requires.1 a.search.now.room
 
 pub write_choice-k-requires : goal.write_choice-k-requires
 write_choice-k-requires c =
@@ -26,5 +26,5 @@ pub returns : goal.returns
 returns c =
     let a = c.args in
     let l = c.loop-i in
-    choices_end a.search.now.scratch.now a.choices.now a.search.now.lists.now a.search.now.sizes c.requires.0 c.requires.1 c.requires.2 l.choices l.k
+    choices_end a.search.now.scratch.now a.choices.now a.search.now.lists.now a.search.now.sizes c.requires.0 c.requires.1 a.search.now.room l.choices l.k
     l.i l.invariant (omega arith)

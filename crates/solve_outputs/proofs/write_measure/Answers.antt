@@ -14,6 +14,7 @@ returns c =
     (omega (
       arith,
       c.requires,
+      a.search.now.room,
       length_part best_measure_at a.search.now.sizes.components a.search.now.scratch.now
-          (omega (arith, c.requires)),
+          (omega (arith, c.requires, a.search.now.room)),
     ))

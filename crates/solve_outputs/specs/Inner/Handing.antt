@@ -1,5 +1,5 @@
 -- What a search has come to, with the base names of its call and what is handed out, as the code holds them.
-use Rattle.std.specs.Prelude.{Bool, false, List, ℕ, Result}
+use Rattle.std.specs.Prelude.{◌≡◌, Bool, false, List, ℕ, Result}
 use Rattle.std.proofs.Math.Option.{Option}
 use Rattle.resolved_sort.specs.declared.Counts.{Counts}
 use Rattle.unification.specs.declared.Full.{Full}
@@ -53,18 +53,16 @@ settling s names h k r =
     settled_by (problem_asked s) names h.typing.now h.measure.now h.choices.now k (out_in s r)
 
 -- no nodes but those that the call began with, and nothing in the scratch
-abbrev pub tidied : Lengths → Search → Search
-tidied k s =
-    record {
-      sorts = s.sorts;
-      nodes = record s.nodes { now = nodes_given_back k.nodes k.arguments s.nodes.now };
-      binds = s.binds;
-      scratch = record s.scratch { now = cleared s.scratch.now };
-      lists = s.lists;
-      sizes = s.sizes;
-      lengths = s.lengths;
-      best = s.best;
-    }
+abbrev pub Tidied : Lengths → Search → Search → Type 0
+Tidied k s t =
+    (t.sorts ≡ s.sorts)
+    × (t.nodes ≡ record s.nodes { now = nodes_given_back k.nodes k.arguments s.nodes.now })
+    × (t.binds ≡ s.binds)
+    × (t.scratch ≡ record s.scratch { now = cleared s.scratch.now })
+    × (t.lists ≡ s.lists)
+    × (t.sizes ≡ s.sizes)
+    × (t.lengths ≡ s.lengths)
+    × (t.best ≡ s.best)
 
 -- room for what is handed out
 abbrev pub CanHandOut : Search → Handout → Type 0

@@ -23,7 +23,7 @@ use Rattle.solver.proofs.+search.Goals as goal
 
 -- `attempt`: places made equal, a step recorded, what comes next, the trail undone: the definition of a try.
 pub attempt-unify_pairs-requires : goal.attempt-unify_pairs-requires
-attempt-unify_pairs-requires t c = (at.trying_here _ _ _ _ _ _ _ _ c.args.step _ c.requires.0, c.requires.1, c.requires.0.long)
+attempt-unify_pairs-requires t c = (at.trying_here _ _ _ _ _ _ _ _ c.args.step _ c.requires.0, c.requires.1)
 
 pub attempt-push-then-requires : goal.attempt-push-then-requires
 attempt-push-then-requires t c = at.push_room _ _ _ _ _ _ _ _ c.args.step _ c.requires.0 _ _ _ _ c.unify_pairs.ensures.0
