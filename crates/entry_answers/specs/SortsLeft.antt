@@ -1,7 +1,6 @@
 -- What an entry leaves of the sort storage ws, lent with n sorts and e entries: words vs in which the given sorts stand
 -- as they were, with new ones behind them; or, where room ended, with zeros behind them.
 use Rattle.std.specs.Prelude.{◌≡◌, false, List, ℕ, ◌*◌, ◌<◌, ◌≤◌, length, get_or, Ok}
-use Rattle.std.proofs.Math.Option.{none}
 use Rattle.resolved_sort.specs.declared.Counts.{Counts}
 use Rattle.resolved_sort.specs.Tree.{Tree}
 use Rattle.resolved_sort.specs.Interning.{Sorts, member, fits}

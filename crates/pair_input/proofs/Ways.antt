@@ -158,9 +158,6 @@ module _ (memory : List ℕ) (held : Held) (bytes out memory₁ : List ℕ) (hel
     pub fed_full : length out₁ - at < line_room → Feeds memory held bytes out memory₁ held₁ out₁ used at
     fed_full h = record { turns = f.turns; within = f.within; fits = f.fits; goes = f.goes; stops = λ x. omega (arith, h, f.out_long, f.fits) }
 
-    pub byte_room : line_room ≤ length out₁ - at → Holds memory₁ held₁ × (at + line_room ≤ length out₁)
-    byte_room h = (f.turns.holds, omega (arith, h))
-
     abbrev t₁ : Turned
     t₁ = take_bytes (lines_of memory held) (take used bytes)
 

@@ -1,6 +1,6 @@
 -- The five parts of a pair's line, put one after another, are the line. The trees asked about are the same in the storage as
 -- it grows. Assumes nothing.
-use mathlib.Core.Path.{◌≡◌, refl, sym, ◌∙◌, ap, ap₂, subst}
+use mathlib.Core.Path.{◌≡◌, refl, ◌∙◌, ap, ap₂}
 use mathlib.Core.Bool.{Bool, true, false}
 use mathlib.Core.List.{List, [], ◌∷◌, ◌++◌}
 use mathlib.Core.Option.{Option, none, some}
@@ -16,7 +16,6 @@ use Rattle.text_out.specs.declared.Out.{Out}
 use Rattle.text_out.specs.Outs.{then_put}
 use Rattle.text_out.proofs.Outs.{put_then}
 use Rattle.pair_line.specs.PairProgram.{sign, sort_or_none, steps_or_none, yes_or_no, comma, answer}
-use Rattle.pair_line.specs.Room.{OfLine, BoundRoom}
 use Rattle.pair_line.specs.Inner.Room.{RoomGrows, BothRead}
 use Rattle.pair_line.specs.Inner.Answers.{steps_text}
 
@@ -48,24 +47,12 @@ module _ (ws : List ℕ) (n e a b : ℕ) (q : BothRead ws n e a b) where
   abbrev t : Tree
   t = tree_at ws n b
 
-  pub join_room : BoundRoom ws n e a b
-  join_room = record { asked = q.asked; of_line = q.of_line; sorts = omega (arith, q.sorts); entries = omega (arith, q.entries) }
-
   module _ (ws₁ : List ℕ) (n₁ e₁ : ℕ) (g₁ : RoomGrows ws n e ws₁ n₁ e₁) where
     same_lhs : tree_at ws₁ n₁ a ≡ s
     same_lhs = g₁.same a q.asked.lhs
 
     same_rhs : tree_at ws₁ n₁ b ≡ t
     same_rhs = g₁.same b q.asked.rhs
-
-    pub meet_room : BoundRoom ws₁ n₁ e₁ a b
-    meet_room =
-        record {
-          asked = record { checked = g₁.checked; lhs = omega (arith, q.asked.lhs, g₁.longer); rhs = omega (arith, q.asked.rhs, g₁.longer) };
-          of_line = subst OfLine (sym same_lhs) q.of_line;
-          sorts = omega (arith, q.sorts, g₁.sorts);
-          entries = omega (arith, q.entries, g₁.entries);
-        }
 
     module _ (ws₂ : List ℕ) (n₂ e₂ : ℕ) (g₂ : RoomGrows ws₁ n₁ e₁ ws₂ n₂ e₂) where
       pub last_asked : Checked ws₂ n₂ e₂ × (a < n₂) × (b < n₂)

@@ -15,7 +15,6 @@ use Rattle.resolved_sort.specs.Tree.{Tree}
 use Rattle.resolved_sort.specs.Checks.{Tested, first_failing, code_of}
 use Rattle.resolved_sort.specs.Entries.{tree_at}
 use Rattle.resolved_sort.proofs.Reached.{no_confusion}
-use Rattle.sort_text.specs.declared.Unread.{Unread}
 use Rattle.sort_text.specs.declared.Unread.TheVariants.{Refused, NotASort}
 use Rattle.sort_text.specs.Parse.{Parsed, parsed, stuck, line}
 use Rattle.sort_text.specs.Reading.{short_line}
@@ -32,7 +31,7 @@ use Rattle.pair_line.specs.declared.Gathered.TheVariants.{Pair, Alone}
 use Rattle.pair_line.specs.PairProgram.{small_decimal, answer, Line, good, wrong, read, line_of, with_first, with_second, single, pair}
 use Rattle.pair_line.specs.Room.{line_room, OfLine, Begun}
 use Rattle.pair_line.specs.Inner.Room.{LineStored, BadPut, BothRead}
-use Rattle.pair_line.specs.Inner.Answers.{wrong_text, length_check, LineTested}
+use Rattle.pair_line.specs.Inner.Answers.{wrong_text, length_check}
 use Rattle.pair_line.specs.Answers.{with_lf, printed, output_left}
 use Rattle.pair_line.proofs.PairLength.{pair_length, single_length}
 use Rattle.pair_line.proofs.Lines.{line_good, line_wrong}
@@ -150,13 +149,6 @@ module _ (bs : List ℕ) (l : length bs ≤ 200) (steps : List ℕ) (x : Recogni
 
   pub line_is_stuck : (p : ℕ) → x ≡ stuck_at p → line_of bs ≡ wrong (wrong_text bs (NotASort p))
   line_is_stuck p i = wrong_by (line bs) refl p (subst (Says bs 0 (length bs) [] (line bs) steps) i f)
-
--- what a line alone prints
-pub tested_good : (bs : List ℕ) (l : Line) {r : Result (Unit {0}) Unread} {u : Unit {0}} → LineTested bs l r → r ≡ Ok u → 50 ∷ 49 ∷ [] ≡ single l
-tested_good bs l {r} {u} h e = let x = subst (LineTested bs l) e h in sym (ap single x.1)
-
-pub tested_wrong : (bs : List ℕ) (l : Line) {r : Result (Unit {0}) Unread} {why : Unread} → LineTested bs l r → r ≡ Err why → wrong_text bs why ≡ single l
-tested_wrong bs l {r} {why} h e = let x = subst (LineTested bs l) e h in sym (ap single x)
 
 -- the entries
 pub buffer_short : (bs out : List ℕ) → length out < line_room → write_left out (Err TooShort) ≡ output_left bs out

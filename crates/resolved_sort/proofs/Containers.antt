@@ -8,24 +8,7 @@ use Rattle.resolved_sort.specs.declared.NoContainer.{NoContainer}
 use Rattle.resolved_sort.specs.declared.Run.{Run}
 use Rattle.resolved_sort.specs.declared.ResolvedSort.{ResolvedSort}
 use Rattle.resolved_sort.specs.declared.ResolvedSort.TheVariants.{Container, TypeVar}
-use Rattle.resolved_sort.specs.Storage.{kind_op, container_of, resolved}
-
-pub container_of_its_kind : (op : ComplexSort) → container_of (kind_op op) ≡ Ok op
-unfolding container_of kind_op
-container_of_its_kind ComplexSort.List = refl
-container_of_its_kind ComplexSort.Set = refl
-container_of_its_kind ComplexSort.FSet = refl
-container_of_its_kind ComplexSort.Bag = refl
-container_of_its_kind ComplexSort.FBag = refl
-
--- what a row says of which a container is found
-pub says_container : (op : ComplexSort) (part : ℕ) (run : Run) → resolved (kind_op op) part run ≡ Container op (record { 0 = part })
-unfolding resolved kind_op
-says_container ComplexSort.List part run = refl
-says_container ComplexSort.Set part run = refl
-says_container ComplexSort.FSet part run = refl
-says_container ComplexSort.Bag part run = refl
-says_container ComplexSort.FBag part run = refl
+use Rattle.resolved_sort.specs.Storage.{container_of, resolved}
 
 -- a kind of none of the five is no container's
 pub no_container :

@@ -16,7 +16,6 @@ use Rattle.resolved_sort.specs.declared.Counts.{Counts}
 use Rattle.resolved_sort.specs.Entries.{Joined}
 use Rattle.resolved_sort.specs.Entries.{At, Nothing, Full}
 use Rattle.resolved_sort.specs.Inner.Bounds.{All, Nothing as NotAll, Full as NoRoom}
-use Rattle.resolved_sort.specs.Inner.Bounds.{Domain}
 use Rattle.resolved_sort.specs.Inner.Pairs.{Functions}
 use Rattle.resolved_sort.specs.Tree.{Tree, function, Trees, no_args, arg, arity}
 use Rattle.resolved_sort.specs.Interning.{Sorts, look, number, member, Outcome, made, nothing, full, ◌then◌, make, makes}
@@ -26,7 +25,7 @@ use Rattle.resolved_sort.specs.Entries.{counts_of, after, stored}
 use Rattle.resolved_sort.specs.Rows.{Checked, stored_at}
 use Rattle.resolved_sort.specs.Inner.Pairs.{pair_at}
 use Rattle.resolved_sort.specs.Bounds.{Asked, bound_at}
-use Rattle.resolved_sort.specs.Inner.Bounds.{TwoFunctions, domain_left, stored_domain, arguments_from, domain_of, bound_domain}
+use Rattle.resolved_sort.specs.Inner.Bounds.{TwoFunctions, domain_left, arguments_from, domain_of, bound_domain}
 use Rattle.resolved_sort.proofs.Numbers.{number_grows}
 use Rattle.resolved_sort.proofs.RowTrees.{AllBelow, weaken_all, below_run, by_kind}
 use Rattle.resolved_sort.proofs.Interned.{listed, row_below}
@@ -308,7 +307,3 @@ module _ (up : Bool) (ws : List ℕ) (C : Counts) (a b : ℕ) (f : TwoFunctions 
             domain_after up ws n e a b f S₁ there.grown (i + 1) (omega arith) (set ids i c.0) vs K there.words there.counted
             ∙ (domain_glue ws n e S₁ there.grown there.sort there.inside c.0 there.numbered i ids _ (rest S₁) rest_kept
             ∙ sym (domain_is ∙ ap (λ O. domain_of ws n e i ids (O then (λ v S. rest S then (λ vs S. made (arg v vs) S)))) there.is))
-
-        pub domain_made : (us : List ℕ) (d : Domain) → stored_domain us d ≡ bound_domain up vs K.sorts K.entries a b (i + 1) (set ids i c.0)
-            → stored_domain us d ≡ bound_domain up ws n e a b i ids
-        domain_made us d q = q ∙ domain_goes_on

@@ -1,7 +1,7 @@
--- The runs of functions: each entry is a sort of the list, and the highest is below the function. Assumes nothing.
+-- The runs of functions: each entry is a sort of the list. Assumes nothing.
 use mathlib.Core.Path.{◌≡◌, refl, ap, subst}
-use mathlib.Core.List.{List, [], ◌∷◌}
-use Prim.Native.Nat.{ℕ, zero, suc, ◌+◌, ◌-◌, ◌<◌, ◌≤◌, max}
+use mathlib.Core.List.{List, ◌∷◌}
+use Prim.Native.Nat.{ℕ, zero, suc, ◌+◌, ◌-◌, ◌<◌}
 use native.Mathlib.Omega.{arith}
 use Rattle.resolved_sort.specs.Storage.{entry_at, entries_of}
 use Rattle.resolved_sort.proofs.RowTrees.{AllBelow}
@@ -18,22 +18,3 @@ pub first_entry : (ws : List ℕ) (s c : ℕ) → (c ≡ 0 → ⊥) → entries_
 unfolding entries_of
 first_entry ws s zero h = absurd (h refl)
 first_entry ws s (suc c) h = let z : c ≡ suc c - 1 = omega arith in ap (λ (j : ℕ). entry_at ws s ∷ entries_of ws (s + 1) j) z
-
--- one more than the highest number of a list
-unfoldable pub top_of : List ℕ → ℕ
-top_of [] = 0
-top_of (x ∷ xs) = max (x + 1) (top_of xs)
-
-pub top_below : (l : ℕ) (xs : List ℕ) → AllBelow l xs → top_of xs ≤ l
-unfolding AllBelow top_of
-top_below l [] h = omega arith
-top_below l (x ∷ xs) h = omega (arith, h.0, top_below l xs h.1)
-
-module _ (ws : List ℕ) (s c : ℕ) (h : c ≡ 0 → ⊥) where
-  pub first_below_top : entry_at ws s < top_of (entries_of ws s c)
-  unfolding top_of
-  first_below_top = rw (first_entry ws s c h) (omega arith)
-
-  pub rest_below_top : top_of (entries_of ws (s + 1) (c - 1)) ≤ top_of (entries_of ws s c)
-  unfolding top_of
-  rest_below_top = rw (first_entry ws s c h) (omega arith)

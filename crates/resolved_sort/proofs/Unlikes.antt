@@ -6,7 +6,6 @@ use mathlib.Core.Option.{Option, none, some}
 use Prim.Native.Nat.{ℕ, ◌+◌}
 use borrow.Author.Tests.{ne_eqb}
 use Rattle.std.specs.Prelude.{None}
-use Rattle.resolved_sort.specs.Order.{Unrelated}
 use Rattle.resolved_sort.specs.Tree.{Tree, Trees, no_args, arg, arity}
 use Rattle.resolved_sort.specs.Order.{le, les, order, ordering, Steps, distance, materializable}
 use Rattle.resolved_sort.proofs.Numbers.{true_not_false}
@@ -34,10 +33,6 @@ unlike_le up container_function = refl
 unlike_le up function_flat = refl
 unlike_le up function_container = refl
 unlike_le up (functions {ss} {ts} {r} {u} h) = rw (les_of_lengths (not up) ss ts h)
-
-pub unlike_order : {s t : Tree} → Unlike s t → order s t ≡ Unrelated
-unfolding order
-unlike_order h = rw (unlike_le true h, unlike_le false h)
 
 pub unlike_ordering : {s t : Tree} → Unlike s t → ordering s t ≡ None
 unfolding ordering

@@ -1,3 +1,2 @@
 -- How the checks on sorts go through rows.
-pub mod Below
 pub mod FirstFour

@@ -3,11 +3,10 @@
 use mathlib.Core.Path.{◌≡◌, refl, sym, ap, ap₂, ◌∙◌}
 use mathlib.Core.Bool.{Bool, true, false, ◌&&◌, and-false, and_assoc}
 use mathlib.Core.List.{List, [], ◌∷◌}
-use Prim.Native.Nat.{ℕ, zero, suc, ◌+◌, ◌<◌, ◌≤◌}
+use Prim.Native.Nat.{ℕ, zero, suc, ◌+◌, ◌<◌}
 use native.Mathlib.Omega.{arith}
 use native.Mathlib.Nat.{add-zero}
-use lib.ListN.{length, get_or, take}
-use lib.Seq.{length-take-le}
+use lib.ListN.{length, get_or}
 use lib.Dec.{eqb}
 use Rattle.resolved_sort.specs.declared.SortId.{SortId}
 use Rattle.resolved_sort.specs.Storage.{entry_at, entries_of}
@@ -26,9 +25,6 @@ unfolding entries_of
 get_d_entries_of ws s zero k h = absurd (omega arith)
 get_d_entries_of ws s (suc n) zero h = ap (entry_at ws) (sym (add-zero s))
 get_d_entries_of ws s (suc n) (suc k) h = get_d_entries_of ws (s + 1) n k (omega arith) ∙ ap (entry_at ws) (omega arith)
-
-pub length_given : (words : List ℕ) (n : ℕ) → length words ≡ 16 → n ≤ 16 → length (take n words) ≡ n
-length_given words n len few = length-take-le n words (omega arith)
 
 words_differ_by_length : (xs ys : List ℕ) → (length xs ≡ length ys → ⊥) → false ≡ same_words xs ys
 unfolding same_words

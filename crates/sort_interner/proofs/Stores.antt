@@ -5,7 +5,7 @@ use Prim.Native.Nat.{ℕ, zero, suc, ◌+◌, ◌*◌, ◌<◌, ◌≤◌}
 use native.Mathlib.Omega.{arith}
 use native.Mathlib.Nat.{add-zero}
 use native.Mathlib.Numerals.{add-one}
-use lib.ListN.{length, get_or, drop, set, length-set, drop_of_length-le}
+use lib.ListN.{length, get_or, drop, set, drop_of_length-le}
 use lib.Seq.{sets, drop-cons}
 use Rattle.resolved_sort.specs.declared.SortId.{SortId}
 use Rattle.resolved_sort.specs.Storage.{row_words, fixed_rows}
@@ -55,8 +55,3 @@ pub next_fixed :
     → us ≡ fixed_rows a (i + 1) start
 unfolding fixed_rows
 next_fixed a start ws i g us e = e ∙ ap (λ (l : List ℕ). set l (a + row_words * i) i) g ∙ rw (add-one) refl
-
-pub fixed_long : (a n : ℕ) (ws : List ℕ) → length (fixed_rows a n ws) ≡ length ws
-unfolding fixed_rows
-fixed_long a zero ws = refl
-fixed_long a (suc n) ws = length-set (fixed_rows a n ws) (a + row_words * n) n ∙ fixed_long a n ws

@@ -85,9 +85,6 @@ handed (Err f) e h = ap Err h
 pub line_read : (us : List ℕ) (k : Counts) {r : Result SortId Unread} {s : SortId} → r ≡ Ok s → read_left us (Ok (s, k)) ≡ read_at us k r
 line_read us k e = ap (read_at us k) (sym e)
 
-pub line_unread : (us : List ℕ) (k : Counts) {r : Result SortId Unread} {u : Unread} → r ≡ Err u → read_left us (Err u) ≡ read_at us k r
-line_unread us k e = ap (read_at us k) (sym e)
-
 -- what it means that no check fails
 module _ (ws : List ℕ) (n e : ℕ) (bs : List ℕ) (t : Tested) (et : t ≡ first_failing (read_checks ws n e bs)) where
   pub refused : (c : Refusal) → t ≡ Err c → read_left ws (Err (Refused c)) ≡ reading ws n e bs

@@ -372,9 +372,6 @@ module _ (ws : List ℕ) (C : Counts) (ops : List ℕ) (i : ℕ) (ids : List Sor
       pub few_arguments : k ≤ 16
       few_arguments = omega (arith, ek, step_small)
 
-      pub base_small : base + k < 256
-      base_small = omega (arith, q.room)
-
       pub range_below : range < n
       range_below = q.numbers (depth - 1) (omega arith)
 
