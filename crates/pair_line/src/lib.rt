@@ -38,6 +38,7 @@ pub enum Gathered<'a> {
 }
 
 // The sign of an order.
+// kept: beside pack_order of sort_entries: the cases are the same and the answers are not, so one would take all four.
 fn sign(order: Option<Ordering>) -> u8
     ensures { result ≡ sign order }
 {

@@ -113,6 +113,7 @@ impl<'a> Lent<'a> {
 
     // Check 4 on rows: no two of them are the same. No pair is left out.
     // A sort with two numbers would break what all above rests on: that sorts are equal exactly where their numbers are.
+    // kept: beside rows_fine: each is one `all` over the rows, of a test of its own.
     fn no_two_equal_rows(&self) -> bool
         requires { self.now.sorts ≤ max_sorts }
         ensures { result ≡ no_same_rows self.now.words.now self.now.sorts }

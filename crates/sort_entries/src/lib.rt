@@ -17,7 +17,8 @@ use std::cmp::Ordering;
 use words::{BIT_8, BIT_16, BIT_24, BIT_32, BIT_48};
 
 // Checks 1 to 4, 12 and 14 of a question about two sorts: the first that fails, or the list, which then has both.
-// kept: a list with its counts, here and in the entries, one parameter for each that C hands the exports.
+// kept: a list with its counts apart, here and in the entries: a caller would make a struct of these same fields for one
+// call.
 fn test_pair(
     sorts: &[u16],
     sort_count: usize,

@@ -13,6 +13,7 @@ use sort_interner::Sorts;
 use std::cmp::Ordering;
 
 // A head that is ordered within a family, by its level there.
+// kept: two tables, as the definitions have them, since a level is asked alone too.
 pub trait Graded: Copy {
     ghost family_of: { Self → ℕ };
 

@@ -112,7 +112,7 @@ fn run(sorts: &mut SortInterner, steps: &[u8]) -> Option<SortId>
 }
 
 // Checks 1 to 4, 14 and 19: the first that fails, or the counts of the list.
-// kept: the list with its counts apart, here and in read, as callers of every entry hand them.
+// kept: the list with its counts apart, here and in read: a caller would make a struct of these same fields for one call.
 fn test_read(
     sorts: &[u16],
     sort_count: usize,

@@ -38,6 +38,8 @@ pub fn op_word(op: ComplexSort) -> &'static [u8]
 
 // Why a line is not read: a check failed; the line is no sort, with the position of its unread end (20); or a new sort
 // had no room (15).
+// kept: NoRoom beside Refused(SortsFull), since a check that failed leaves the words as they are given, where want of room
+// puts them back: their clauses differ.
 #[derive(Clone, Copy, Debug, PartialEq, Eq)]
 pub enum Unread {
     Refused(Refusal),

@@ -22,7 +22,8 @@ use text_out::Out;
 use words::{BIT_63, word};
 
 // The size of two texts one after the other. It stops at 2^63, and where one has no text there is none.
-// kept: a size of 0 and no Option, since a text has a byte at least, and 1,024 sizes stand in one array.
+// kept: a size of 0 and no Option, since callers lend fill_sizes the numbers that it stores: an Option would be made of a 0
+// at each read, and a 0 of it at each store.
 #[tactic(auto, using(crate::proofs::Sizes::joined_none, crate::proofs::Sizes::joined_with_none, crate::proofs::Sizes::joined_as))]
 fn join_sizes(a: usize, b: usize) -> usize
     ensures { result ≡ joined a b }
@@ -149,7 +150,8 @@ pub fn put_text(sorts: &Sorts, id: SortId, out: &mut Out)
 }
 
 // Checks 1 to 4, 12, 13 and 14 of writing a sort: the first that fails, or the counts of the list.
-// kept: the list with its counts apart, here, in write and in the export, since C hands them so.
+// kept: the list with its counts apart, here and in write: a caller would make a struct of these same fields for one
+// call. The export has them apart since C calls it so.
 fn test_write(
     sorts: &[u16],
     sort_count: usize,
