@@ -84,7 +84,9 @@ fn lend(list: &[u16], slice: Slice, table: Table) -> &[u16]
 }
 
 // The solver asked about a list, with its counts and the slices that it may change.
-// kept: four lent slices apart, since a Search holds each of them, and more besides.
+// kept: four lent slices apart, as `solve` takes them: as a struct within a Search they were tried, and a &mut slice of
+// a struct within a struct is lost at the end of the outer one.
+// kept: a bound on the list and no array of LIST_WORDS words, which would ask more of callers; so in the crates above.
 #[tactic(auto, unfolding(list_memory::specs::Layouts::layout_of))]
 pub fn solve_list(
     list: &[u16],

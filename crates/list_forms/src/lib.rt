@@ -19,7 +19,7 @@ ghost use Rattle.list_forms.specs.Lines.{disjunction_plan, overload_row, overloa
 ghost use Rattle.list_forms.specs.Lines.{entries_plan, constraint_plan, pad_plan, told_line, count_plan, lend_plan};
 ghost use Rattle.list_forms.specs.Lines.{plan_of, asks_other};
 
-use inference::{LitKind, MAX_CONSTRAINTS, NameKind};
+use inference::{CONSTRAINT_WORDS, LitKind, MAX_CONSTRAINTS, NameKind};
 use list_memory::{
     COUNTS_AT, COUNTS_TOLD_AT, DEFAULT_AT, Form, LAST_AT, LENT_AT, LENT_TOLD_AT, LIST_BINDS_AT,
     LIST_CONSTRAINTS_AT, LastConstraint, MAX_NAMES, Slice, Table, rows_given,
@@ -89,6 +89,7 @@ pub enum Item {
     Literal,
 }
 
+// kept: three tests of one shape: `matches!` is all that they share, and the words are what each is about.
 fn is_fixed_sort(keyword: Keyword) -> bool
     ensures { result ≡ is_fixed_sort keyword }
 {
@@ -318,7 +319,8 @@ fn constraint_row(row: [u16; 5], last: LastConstraint) -> Plan
 }
 
 // What was expected, where it does not hold.
-// kept: beside `check` of solve_checks: its contract names the first failing check, this one what holds after `?`.
+// kept: beside `check` of solve_checks: its contract says which of a list of checks fails first, this one that `holds`
+// is true after `?`, which each line's plan needs.
 fn expect(holds: bool, form: Form) -> Result<(), Form>
     ensures { MatchResult result (λ _. holds ≡ true) (λ f. (holds ≡ false) × (f ≡ form)) }
 {
@@ -381,7 +383,7 @@ impl<'a> Line<'a> {
         if rows == 0 || MAX_CONSTRAINTS < rows {
             return None;
         }
-        let at = BEFORE_CONSTRAINTS + 5 * rows + i;
+        let at = BEFORE_CONSTRAINTS + CONSTRAINT_WORDS * rows + i;
         let value = word(self.list, at).saturating_add(n);
         Some(Put { at, value })
     }
@@ -559,6 +561,7 @@ impl<'a> Line<'a> {
     }
 
     // `node nK ..`
+    // kept: of the shape of sort_plan: what the two share is parts_row, and the rows that only one of them has differ.
     #[tactic(auto, unfolding(crate::specs::Lines::node_plan))]
     fn node_plan(&self) -> Result<Plan, Form>
         ensures { result ≡ node_plan self.now.list.now self.now.words.now }
@@ -921,6 +924,7 @@ impl<'a> Line<'a> {
     }
 
     // `count WHAT N`
+    // kept: of the shape of lend_plan: what the two share is told_line, and a table is no slice.
     fn count_plan(&self) -> Result<Plan, Form>
         ensures { result ≡ count_plan self.now.words.now }
     {
@@ -1005,7 +1009,7 @@ pub fn asks_other(t: &[Token]) -> bool
 const NODE_PLACES: u16 = u16::MAX - FIRST_NODE + 1;
 
 // The last row of so many constraints begins so many rows behind this word.
-const BEFORE_CONSTRAINTS: usize = LIST_CONSTRAINTS_AT - 5;
+const BEFORE_CONSTRAINTS: usize = LIST_CONSTRAINTS_AT - CONSTRAINT_WORDS;
 
 // Ceilings as words.
 const VARS: u16 = MAX_VARS as u16;

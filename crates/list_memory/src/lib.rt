@@ -10,7 +10,7 @@ use inference::{
     CHOICE_WORDS, CONSTRAINT_WORDS, MAX_COMPONENTS, MAX_CONSTRAINTS, MAX_EXPRS, MAX_OVERLOADS,
     MAX_SOURCES, NAME_WORDS, OVERLOAD_WORDS, SCRATCH_WORDS, TYPING_WORDS,
 };
-use resolved_sort::{ENTRIES_AT, MAX_ENTRIES, MAX_SORTS, SORT_WORDS};
+use resolved_sort::{ENTRIES_AT, MAX_ENTRIES, MAX_SORTS, ROW_WORDS, SORT_WORDS};
 use unification::{MAX_NODE_ENTRIES, MAX_NODES, MAX_VARS, NODE_ENTRIES_AT, NODE_WORDS};
 use words::word;
 
@@ -127,7 +127,8 @@ pub enum Slice {
 }
 
 // How far a list is read: no list yet, lines of the list may come, a question was asked, a line was not of the format.
-// kept: four stages, and no Option of three, since one word of memory holds a stage and is compared with one of them.
+// kept: a word of the list, which is no Option, and no field beside the list: the definitions of a line take and give
+// the list as one list of words (`line_taken` and all under it), and each would take and give a field besides.
 #[derive(Clone, Copy, Debug, PartialEq, Eq)]
 pub enum Stage {
     NoList,
@@ -137,7 +138,7 @@ pub enum Stage {
 }
 
 // The last constraint line: overloads may follow a disjunction, and sources a join.
-// kept: Other and no Option, since one word of memory tells which of the three the last line is.
+// kept: Other and no None: it is a word of the list as the stage is, and no field for the same reason.
 #[derive(Clone, Copy, Debug, PartialEq, Eq)]
 pub enum LastConstraint {
     Other,
@@ -167,20 +168,20 @@ impl Table {
         ensures narrow { result.width ≤ 5 }
     {
         let (start, width, ceiling) = match self {
-            Table::Sorts => (LIST_SORTS_AT, 4, MAX_SORTS),
+            Table::Sorts => (LIST_SORTS_AT, ROW_WORDS, MAX_SORTS),
             Table::Entries => (LIST_SORTS_AT + ENTRIES_AT, 1, MAX_ENTRIES),
-            Table::Nodes => (LIST_NODES_AT, 4, MAX_NODES),
+            Table::Nodes => (LIST_NODES_AT, ROW_WORDS, MAX_NODES),
             Table::NodeEntries => (LIST_NODES_AT + NODE_ENTRIES_AT, 1, MAX_NODE_ENTRIES),
             Table::Vars => (LIST_BINDS_AT, 1, MAX_VARS),
             Table::Exprs => (LIST_EXPRS_AT, 1, MAX_EXPRS),
-            Table::Names => (LIST_NAMES_AT, 3, MAX_NAMES),
-            Table::Constraints => (LIST_CONSTRAINTS_AT, 5, MAX_CONSTRAINTS),
-            Table::Overloads => (LIST_OVERLOADS_AT, 3, MAX_OVERLOADS),
+            Table::Names => (LIST_NAMES_AT, NAME_WORDS, MAX_NAMES),
+            Table::Constraints => (LIST_CONSTRAINTS_AT, CONSTRAINT_WORDS, MAX_CONSTRAINTS),
+            Table::Overloads => (LIST_OVERLOADS_AT, OVERLOAD_WORDS, MAX_OVERLOADS),
             Table::Sources => (LIST_SOURCES_AT, 1, MAX_SOURCES),
         };
         Layout {
             start: start as u16,
-            width,
+            width: width as u16,
             ceiling: ceiling as u16,
         }
     }
@@ -263,7 +264,8 @@ pub const LIST_SCRATCH_AT: usize = LIST_CHOICES_AT + LIST_CHOICE_WORDS;
 // Behind the slices: the rows given of each list; the default sort; the count that a `count` line tells of each list,
 // and whether one told it; the length that a `lend` line tells of each slice, and whether one told it; how far the list
 // is read; and the kind of the last constraint line. A few words more are free.
-// kept: whether a line told it is a word beside each count and length, and no Option: all are words of one array.
+// kept: that a line told it is a word beside each count and length, and no Option: all are words of the list, as Stage
+// is and for its reason; list_call::told reads both as an Option.
 pub const ROWS_AT: usize = LIST_SCRATCH_AT + SCRATCH_WORDS;
 
 pub const DEFAULT_AT: usize = ROWS_AT + 10;

@@ -9,6 +9,7 @@ use list_memory::Form;
 use text_out::Out;
 
 // What was expected, by the form.
+// kept: a table by hand, since the texts are the format's, whole lines most of them, and no variants' names.
 #[tactic(auto, unfolding(crate::specs::Messages::form_text))]
 fn expected(form: Form) -> &'static [u8]
     ensures { result.now ≡ form_text form }
@@ -60,6 +61,7 @@ fn expected(form: Form) -> &'static [u8]
 }
 
 // The line, but for the number of the line that it speaks of.
+// kept: of the shape of put_verdict of list_verdict, whose line begins with a number.
 pub fn put_bad(form: Form, out: &mut Out<'_>)
     ensures { out.new ≡ then_put out.old (bad_text form) }
 {

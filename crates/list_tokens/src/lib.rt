@@ -104,6 +104,7 @@ pub enum Start {
 }
 
 // The words of the format, in the order in which a word is looked up.
+// kept: a list by hand, since an enum has no list of its variants; the definition `keywords` has the same order.
 const KEYWORDS: [Keyword; 64] = [
     Keyword::List,
     Keyword::Bare,
@@ -173,6 +174,7 @@ const KEYWORDS: [Keyword; 64] = [
 
 impl Keyword {
     // The word as it is written.
+    // kept: a table by hand, since the words are the format's, as `?`, `->` and `node-entries`, and no variants' names.
     #[tactic(auto, unfolding(crate::specs::Words::spelling))]
     pub fn spelling(self) -> &'static [u8]
         ensures { result.now ≡ spelling self }

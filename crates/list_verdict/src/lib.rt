@@ -15,7 +15,7 @@ ghost use Rattle.list_verdict.specs.Text.{new_line, new_lines, typing_text, rows
 ghost use Rattle.list_verdict.specs.Inner.Room.{SizesOf};
 ghost use Rattle.list_verdict.specs.Inner.Row.{row_text};
 
-use inference::{ExprId, NameKind, Verdict};
+use inference::{CHOICE_WORDS, ExprId, NameKind, TYPING_WORDS, Verdict};
 use resolved_sort::{ENTRIES_AT, MAX_SORTS, Refusal, ResolvedSort, Run, SortId};
 use sort_interner::{Sorts, get};
 use sort_text::{MAX_LINE, op_word, sort_word};
@@ -25,6 +25,7 @@ use words::word;
 
 // What a typing hands out: the rows of its expressions, the components of its measure, and the chosen overloads.
 // kept: counts beside slices, since a count is a word of the call, and what is lent may be shorter.
+// kept: apart from the Out in each function below, as the sorts are: it is read, and the Out is where the text is put.
 #[derive(Clone, Copy)]
 pub struct Typing<'a> {
     pub rows: &'a [u16],
@@ -172,7 +173,7 @@ fn put_measure(typing: &Typing<'_>, out: &mut Out<'_>)
 fn put_choice(typing: &Typing<'_>, i: u16, out: &mut Out<'_>)
     ensures { out.new ≡ then_put out.old (choice_text typing.now.choices.now i) }
 {
-    let row = 2 * (i as usize);
+    let row = CHOICE_WORDS * (i as usize);
     put_comma(i, out);
     put_expr_name(ExprId(word(typing.choices, row)), out);
     out.put_byte(b' ');
@@ -302,7 +303,7 @@ impl SortTexts<'_> {
         ensures { out.new ≡ then_put out.old
             (expr_line self.now.sorts.words.now self.now.sorts.counts.sorts typing.now.rows.now expr.0) }
     {
-        let row = 3 * (expr.0 as usize);
+        let row = TYPING_WORDS * (expr.0 as usize);
         put_expr_name(expr, out);
         out.put_text(b": ");
         self.put_sort_text(SortId(word(typing.rows, row)), out);

@@ -15,7 +15,6 @@
 
 ghost use Rattle.std.specs.Prelude.{◌≡◌, ◌+◌, ◌<◌, ◌≤◌, length, IfSome, MatchResult};
 ghost use Rattle.replay.specs.Inner.Lines.{near_enough};
-ghost use Rattle.replay.specs.Inner.Numbers.{max_fields};
 ghost use Rattle.recorded_solve.specs.Inner.Slices.{held_counts_at, slice_start, slice_number, last_slice};
 ghost use Rattle.recorded_solve.specs.Inner.Slices.{count_number, count_held, counts_held};
 ghost use Rattle.recorded_solve.specs.Inner.Slices.{call_held_in, slices_kept, slices_held, packed_of};
@@ -213,7 +212,6 @@ impl Slice {
 // Where the words of a line stand, after the number of a slice and of a word of it, where they are inside the slice.
 #[tactic(auto, unfolding(crate::specs::Inner::Lines::start_in))]
 fn start_of_words(numbers: &[u64]) -> Option<usize>
-    requires { length numbers.now ≤ max_fields }
     ensures start { result ≡ start_in numbers.now }
     ensures near { IfSome result (λ at. (at ≤ near_enough) × (2 ≤ length numbers.now)) }
 {
@@ -230,7 +228,7 @@ fn start_of_words(numbers: &[u64]) -> Option<usize>
 // Words, from a word on, compared with those recorded: all agree, or the first that is another.
 // kept: a loop, and no zip with the words from the start on, since a word past the end is 0 and is compared too.
 fn compare(left: &[u16], start: usize, recorded: &[u64]) -> Verdict
-    requires { (start ≤ near_enough) × (length recorded.now ≤ max_fields) }
+    requires { start ≤ near_enough }
     ensures { result ≡ compared_from left.now start recorded.now }
 {
     for (i, &value) in recorded.iter().enumerate() {
@@ -381,7 +379,6 @@ impl RecordedSolve {
     // Words of the list.
     #[tactic(auto, unfolding(crate::specs::Inner::Lines::given_at))]
     fn give(&mut self, numbers: &[u64]) -> Verdict
-        requires { length numbers.now ≤ max_fields }
         ensures { (self.new, result) ≡ give_line self.old numbers.now }
     {
         let Some(start) = start_of_words(numbers) else {
@@ -397,7 +394,6 @@ impl RecordedSolve {
     // Words that the last question left.
     #[tactic(auto, unfolding(crate::specs::Inner::Lines::compared_at))]
     fn compare_left(&self, numbers: &[u64]) -> Verdict
-        requires { length numbers.now ≤ max_fields }
         ensures { result ≡ compare_line self.now numbers.now }
     {
         let Some(start) = start_of_words(numbers) else {

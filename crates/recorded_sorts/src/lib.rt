@@ -7,7 +7,6 @@
 
 ghost use Rattle.std.specs.Prelude.{◌≡◌, ◌+◌, ◌*◌, ◌≤◌, length};
 ghost use Rattle.replay.specs.Inner.Lines.{near_enough};
-ghost use Rattle.replay.specs.Inner.Numbers.{max_fields};
 ghost use Rattle.recorded_sorts.specs.Inner.Lines.{letter_of, complete as is_complete, keep_of};
 ghost use Rattle.recorded_sorts.specs.Inner.Lines.{begin_line, row_line, run_line, packed_answer, ask_line};
 ghost use Rattle.recorded_sorts.specs.Inner.Lines.{sorts_started};
@@ -119,6 +118,7 @@ fn ask(
 
 impl RecordedSorts {
     // Where reading starts: an empty list, complete.
+    // kept: of the shape of recorded_unify's: the words and the progress are of other types there.
     pub fn new() -> RecordedSorts
         ensures { result ≡ sorts_started }
     {

@@ -114,8 +114,9 @@ impl Fields {
 }
 
 // Numbers stored as the words from a word on, up to the first that is no word; whether all are words.
+// kept: a bound on the place, here and where it is handed on, since the places of the words are to be numbers of a usize.
 pub fn store(list: &mut [u16], base: usize, values: &[u64]) -> bool
-    requires { (base ≤ near_enough) × (length values.now ≤ max_fields) }
+    requires { base ≤ near_enough }
     ensures { words_kept list.new result ≡ store_from list.old base values.now }
 {
     for (i, &value) in values.iter().enumerate() {
@@ -251,7 +252,6 @@ pub trait Recorded {
 
     // A line of a letter and numbers.
     fn replay(&mut self, letter: u8, numbers: &[u64]) -> Verdict
-        requires { length numbers.now ≤ max_fields }
         ensures { (self.new, result) ≡ step self.old letter numbers.now };
 
     fn is_complete(&self) -> bool

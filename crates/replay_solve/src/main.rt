@@ -11,6 +11,7 @@ use recorded_solve::RecordedSolve;
 use replay::run;
 use std::io;
 
+// kept: one of three such programs: each has a type of recorded answers of its own, and a file stdin of its own.
 fn main(rt: HostRuntime) -> io::Result<()> {
     run(&mut RecordedSolve::new(), &mut rt.stdin(), &mut rt.stdout())
 }

@@ -10,6 +10,7 @@ use recorded_unify::RecordedUnify;
 use replay::run;
 use std::io;
 
+// kept: one of three such programs: each has a type of recorded answers of its own, and a file stdin of its own.
 fn main(rt: HostRuntime) -> io::Result<()> {
     run(&mut RecordedUnify::new(), &mut rt.stdin(), &mut rt.stdout())
 }
