@@ -3,7 +3,7 @@
 
 ghost use Rattle.std.specs.Prelude.{◌≡◌, ◌≤◌, ◌-◌, Some, set};
 ghost use Rattle.list_memory.specs.Memory.{rows_given, stage_at, taken};
-ghost use Rattle.list_memory.specs.Layouts.{table_number, stage_number, list_row_at};
+ghost use Rattle.list_memory.specs.Layouts.{stage_number, list_row_at};
 ghost use Rattle.list_tokens.specs.Tokens.{line_start};
 ghost use Rattle.list_reader.specs.Inner.Taking.{most_place, bad_marked};
 ghost use Rattle.list_reader.specs.Taking.{one_more_word, row_kept, appended, rows_taken};

@@ -7,7 +7,7 @@ ghost use Rattle.std.specs.List.{list_all};
 ghost use Rattle.sort_text.specs.Tokens.{past};
 ghost use Rattle.sort_lexer.specs.Inner.Lexeme.{offset};
 ghost use Rattle.list_tokens.specs.Words.{spelling, keyword_of};
-ghost use Rattle.list_tokens.specs.Tokens.{number_read, of_class, name_token, token_of, in_word};
+ghost use Rattle.list_tokens.specs.Tokens.{number_read, name_token, token_of, in_word};
 ghost use Rattle.list_tokens.specs.Tokens.{tokens_of, is_printable, start_by, line_start};
 
 use sort_lexer::{between, run_end, skip_spaces};

@@ -5,7 +5,7 @@
 // nothing.
 #![tactic(auto)]
 
-ghost use Rattle.std.specs.Prelude.{◌≡◌, ◌+◌, ◌*◌, ◌≤◌, length};
+ghost use Rattle.std.specs.Prelude.{◌≡◌, ◌≤◌};
 ghost use Rattle.replay.specs.Inner.Lines.{near_enough};
 ghost use Rattle.recorded_sorts.specs.Inner.Lines.{letter_of, complete as is_complete, keep_of};
 ghost use Rattle.recorded_sorts.specs.Inner.Lines.{begin_line, row_line, run_line, packed_answer, ask_line};

@@ -10,7 +10,7 @@ ghost use Rattle.std.specs.Prelude.{◌≡◌, ◌≤◌, length};
 ghost use Rattle.unify_entries.specs.Packed.{packed_binds};
 ghost use Rattle.replay.specs.Inner.Lines.{near_enough};
 ghost use Rattle.recorded_unify.specs.Inner.Lines.{bindings_at, letter_of, part_start, part_length, with_length};
-ghost use Rattle.recorded_unify.specs.Inner.Lines.{no_lengths, unify_started, complete as is_complete};
+ghost use Rattle.recorded_unify.specs.Inner.Lines.{unify_started, complete as is_complete};
 ghost use Rattle.recorded_unify.specs.Inner.Lines.{begin_line, keep_of, row_line, run_line};
 ghost use Rattle.recorded_unify.specs.Inner.Lines.{renewed, bindings_in, binds_line, unified, judged_of, ask_line};
 

@@ -2,7 +2,7 @@
 // differ, and what is said of a line and at the end.
 #![tactic(auto)]
 
-ghost use Rattle.std.specs.Prelude.{Bool, List, ℕ, ◌≡◌, ◌+◌, ◌*◌, ◌≤◌, length, drop, OnOk, IfOk, IfSome};
+ghost use Rattle.std.specs.Prelude.{Bool, List, ℕ, ◌≡◌, ◌≤◌, length, OnOk, IfOk, IfSome};
 ghost use Rattle.replay.specs.Inner.Numbers.{max_fields, digits, number_at, fields_of, values_read};
 ghost use Rattle.std.specs.Io.KnownBytes.{Appends};
 ghost use Rattle.replay.specs.Said.{line_said, bad_said, other_said, said_of, unless, counted_unless, end_said};
