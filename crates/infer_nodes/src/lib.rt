@@ -9,37 +9,16 @@ ghost use Rattle.unification.specs.Term.{Shape, kind_head, same_head};
 ghost use Rattle.unification.specs.Nodes.{node_entries_at, op_of_kind, node_at, node_entry_at, binding_of, bound_of};
 ghost use Rattle.unification.specs.Unify.{of_test, follow, occurs as occursIn, deep};
 ghost use Rattle.unification.specs.Checked.{Placed};
-ghost use Rattle.unification.specs.Resolve.{with_counts};
 ghost use Rattle.infer_nodes.specs.Inner.Bound.{bound_to, BindsPass};
 ghost use Rattle.infer_nodes.specs.Inner.Parts.{NodesReady, var_at, var_by, number_by, SmallCount, RowAt};
 
 use resolved_sort::{
-    ComplexSort, Counts, DEF_KIND, ENTRIES_AT, FIRST_CONTAINER, FUNCTION_KIND, ROW_WORDS, Run,
+    ComplexSort, DEF_KIND, ENTRIES_AT, FIRST_CONTAINER, FUNCTION_KIND, ROW_WORDS, Run,
 };
 use unification::{
     InferSort, InferSortId, Lengths, NODE_ENTRIES_AT, NodeId, Place, SortVar, binding_of,
 };
 use words::word;
-
-// The sorts in use, and the lengths with other sorts in use.
-pub fn counts_of(lengths: Lengths) -> Counts
-    ensures { result ≡ record { sorts = lengths.sorts; entries = lengths.entries } }
-{
-    Counts {
-        sorts: lengths.sorts,
-        entries: lengths.entries,
-    }
-}
-
-pub fn with_counts(lengths: Lengths, counts: Counts) -> Lengths
-    ensures { result ≡ with_counts lengths counts }
-{
-    Lengths {
-        sorts: counts.sorts,
-        entries: counts.entries,
-        ..lengths
-    }
-}
 
 // The container constructor of a kind. A kind below the containers' says List: that there is none is check 5's to show.
 #[tactic(auto, using(crate::proofs::Ways::op_or_list))]

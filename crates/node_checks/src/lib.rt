@@ -131,8 +131,8 @@ impl Lent<'_> {
 }
 
 // Check 6: each of the v bindings is free or names a place.
-// kept: v beside the bindings, and m beside the nodes below: a slice up to a count could be taken only where the count is
-// known to be within the list, which no function of these checks asks.
+// kept: v beside the bindings, and m beside the nodes below: a slice up to a count could be taken only where the count
+// is known to be within the list, which no function of these checks asks.
 fn bindings_fine(binds: &[u16], v: usize, n: usize, m: usize) -> bool
     ensures { result ≡ bindings_fine n m (binds_of binds.now v) }
 {

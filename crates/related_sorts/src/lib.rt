@@ -116,8 +116,8 @@ fn final_range(bindings: &Bindings, id: InferSortId, functions: &mut [u16]) -> L
 // kept: beside Places of infer_nodes, which has the same parts: those are only read, and copied into what asks.
 // kept: that the fixed sorts are there is asked by the four that need it, and is no ghost field: tried, and all but
 // related_generic proved, where it stays to be shown that what the interner counts has grown.
-// kept: bindings and `up` go beside it, and are no fields: the bindings are read on the way to an end alone, and what is
-// asked of a place or a constructor is asked in one direction.
+// kept: bindings and `up` go beside it, and are no fields: the bindings are read on the way to an end alone, and what
+// is asked of a place or a constructor is asked in one direction.
 #[derive(Drop)]
 pub struct Arena<'a> {
     pub sorts: &'a mut [u16],

@@ -126,8 +126,8 @@ fn unify_alone(places: Places<'_>, binds: &mut [u16], lhs: InferSortId, rhs: Inf
 // unifiable. A no leaves the bindings as they were.
 // Ruled out: a variable bound to what it occurs in; the right one of two free variables bound to
 // the left; a binding left by a no.
-// kept: parameters as the export has them: each caller would make a struct for one call, with these same fields, and the
-// bindings, which are written, would stand beside it all the same, since the contract says what is left in them.
+// kept: parameters as the export has them: each caller would make a struct for one call, with these same fields, and
+// the bindings, which are written, would stand beside it all the same, since the contract says what is left in them.
 pub fn unify(
     sorts: &[u16],
     sort_count: usize,
