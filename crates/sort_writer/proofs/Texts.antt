@@ -98,9 +98,6 @@ before_later zero m m₁ h f = absurd (omega arith)
 before_later (suc i) m m₁ h f = f
 
 module _ {ws : List ℕ} {n e a : ℕ} (k : Checked ws n e) (below : a < n) {R : ResolvedSort} (q : R ≡ row_at ws a) where
-  abbrev the_text : List ℕ
-  the_text = text (tree_at ws n a)
-
   says : (S : ResolvedSort) → R ≡ S → text (tree_at ws n a) ≡ text (sort_of ws (trees ws n) S)
   says S t = ap text (row_says ws n e (listed k) a below ∙ ap (sort_of ws (trees ws n)) (sym q ∙ t))
 
