@@ -9,7 +9,7 @@ use Rattle.std.specs.Result.{result_unwrap_or}
 use Rattle.inference.specs.declared.Constraint.{Constraint}
 use Rattle.inference.specs.declared.Constraint.TheVariants as says
 use Rattle.inference.specs.declared.LitKind.{LitKind}
-use Rattle.inference.specs.declared.LitKind.TheVariants.{Positive, Natural}
+use Rattle.inference.specs.declared.LitKind.TheVariants.{Natural}
 use Rattle.inference.specs.declared.NameKind.{NameKind}
 use Rattle.inference.specs.declared.NameKind.TheVariants as kinds
 use Rattle.inference.specs.declared.NameTarget.{NameTarget}

@@ -2,25 +2,20 @@
 use mathlib.Core.Path.{◌≡◌, refl, sym, ◌∙◌, ap, subst}
 use mathlib.Core.Bool.{true}
 use mathlib.Core.List.{List}
-use mathlib.Core.Option.{none, some}
-use mathlib.Core.Option.{Option as Maybe}
 use Rattle.std.specs.Prelude.{Option, Some as Is, None as Nothing, Result, Ok, Err}
 use Rattle.resolved_sort.specs.declared.NoRoom.{NoRoom}
 use Prim.Native.Nat.{ℕ}
 use Rattle.resolved_sort.specs.declared.SortId.{SortId}
 use Rattle.resolved_sort.specs.declared.Counts.{Counts}
-use Rattle.resolved_sort.specs.declared.Steps.{Steps as StepsAnswer}
-use Rattle.resolved_sort.specs.Order.{Steps, steps_of}
 use Rattle.resolved_sort.specs.Entries.{Stored}
 use Rattle.resolved_sort.specs.Rows.{left_at}
 use Rattle.resolved_sort.specs.Bounds.{bound_at}
-use Rattle.resolved_sort.proofs.Reached.{no_confusion}
 use Rattle.unification.specs.declared.Lengths.{Lengths}
 use Rattle.unification.specs.Default.{Default}
 use Rattle.unification.specs.Nodes.{binds_of}
 use Rattle.unification.specs.Inner.Resolve.{value_in}
 use Rattle.unification.specs.Resolve.{term_resolved, with_counts}
-use Rattle.inference.specs.Search.{makes_sort, resolve_in, join_in, head_steps}
+use Rattle.inference.specs.Search.{makes_sort, resolve_in, join_in}
 use Rattle.search_state.specs.Inner.Leaves.{made_of}
 use Rattle.unification.specs.Making.{Makes}
 use Rattle.unification.specs.Inner.Making.{lent}

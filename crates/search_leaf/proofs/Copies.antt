@@ -2,10 +2,10 @@
 -- the choices of the branch are the incumbent's, whose sorts and the branch stay. Assumes nothing.
 use mathlib.Core.Path.{◌≡◌, ap, ◌∙◌}
 use mathlib.Core.List.{List, ◌++◌, append_assoc}
-use Prim.Native.Nat.{ℕ, ◌+◌, ◌-◌, ◌<◌, ◌≤◌}
+use Prim.Native.Nat.{ℕ, ◌+◌, ◌-◌, ◌≤◌}
 use native.Mathlib.Omega.{arith}
-use lib.ListN.{length, get_or, take, drop, length-drop, get_or-append}
-use lib.Seq.{length-take-le, take_at, drop_at, get_or-take, length-paste, drop-paste}
+use lib.ListN.{length, take, drop, length-drop}
+use lib.Seq.{length-take-le, take_at, drop_at, length-paste, drop-paste}
 use Rattle.std.specs.List.{copy_within}
 use Rattle.inference.specs.Constraints.{max_exprs, max_constraints, max_components}
 use Rattle.search_state.specs.declared.Sizes.{Sizes}

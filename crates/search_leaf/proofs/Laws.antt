@@ -6,7 +6,6 @@ use mathlib.Core.List.{List}
 use mathlib.Core.Option.{some}
 use Prim.Native.Nat.{ℕ, ◌+◌, ◌≤◌}
 use native.Mathlib.Omega.{arith}
-use lib.ListN.{length}
 use Rattle.resolved_sort.proofs.Reached.{no_confusion}
 use Rattle.unification.specs.declared.Lengths.{Lengths}
 use Rattle.std.specs.Prelude.{Some as Is}
@@ -31,7 +30,7 @@ use Rattle.resolved_sort.specs.declared.NoRoom.{NoRoom}
 use Rattle.std.specs.declared.cmp.Ordering.{Ordering}
 use Rattle.std.specs.declared.cmp.Ordering.TheVariants.{Less, Equal, Greater}
 use Rattle.search_state.specs.Inner.Memory.{expr_at, problem_in, chosen_exprs, best_sorts_at, measure_at, best_measure_at}
-use Rattle.search_state.specs.Inner.Memory.{choices_at, best_choices_at, scratch_used, choices_of, path_of, candidate_of}
+use Rattle.search_state.specs.Inner.Memory.{choices_at, best_choices_at, choices_of, path_of, candidate_of}
 use Rattle.search_state.specs.Inner.Memory.{best_of, world_of}
 use Rattle.words.specs.Words.{part}
 use Rattle.search_state.specs.Inner.Leaves.{extracted_of, Extracts, ranking_of}

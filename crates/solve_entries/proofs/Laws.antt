@@ -1,7 +1,7 @@
 -- The entry, as its code goes: a call that a check refuses is left as it is; one that passes begins the search with nothing, and what is left after the search
 -- is the defined outcome. Assumes nothing.
 use mathlib.Core.Path.{◌≡◌, refl, sym, ap, ◌∙◌, subst}
-use mathlib.Core.Bool.{Bool, true, false}
+use mathlib.Core.Bool.{Bool}
 use mathlib.Core.List.{List, []}
 use Prim.Native.Nat.{ℕ, ◌*◌, ◌≤◌}
 use native.Mathlib.Omega.{arith}
@@ -12,7 +12,6 @@ use Rattle.resolved_sort.specs.Checks.{Tested, first_failing}
 use Rattle.unification.specs.declared.Full.{Full}
 use Rattle.unification.specs.declared.Lengths.{Lengths}
 use Rattle.unification.specs.Nodes.{binds_of}
-use Rattle.unification.specs.Making.{Lent}
 use Rattle.inference.specs.Constraints.{name_words, BaseName, base_name_at, rows_from}
 use Rattle.inference.specs.SolveChecks.{Call, solve_checks}
 use Rattle.inference.specs.SolveEntry.{Solved, SolveLeft, solve_entry, problem_of}
@@ -24,7 +23,7 @@ use Rattle.search_state.specs.Inner.States.{Found, Missed, Full as Ended}
 use Rattle.search_state.specs.declared.Next.TheVariants.{Solve}
 use Rattle.search_state.specs.Inner.Memory.{problem_words, problem_in, path_of, world_of, out_of, solve_from}
 use Rattle.search_state.specs.Inner.Searching.{SearchGrown, Searching as SearchingIn, Done}
-use Rattle.search_state.specs.Inner.Solving.{Given as GivenTo, Searching, Comes, SameProblem, given_of, lent_of, state_of, answer_of}
+use Rattle.search_state.specs.Inner.Solving.{Given as GivenTo, Searching, Comes, lent_of, state_of, answer_of}
 use Rattle.problem_words.specs.Inner.Packed.{Packable, problem_from}
 use Rattle.solve_checks.specs.declared.Problem.{Problem}
 use Rattle.solve_checks.specs.Inner.Calls.{call_for}
@@ -35,7 +34,7 @@ use Rattle.solve_outputs.specs.Inner.Begin.{CountsFit, RowsFit, sizes_of, no_inc
 use Rattle.solve_outputs.specs.Finish.{solve_left}
 use Rattle.solve_outputs.specs.Inner.Finish.{solve_left_by, settled_by, Handable, SortsReturnable, NodesReturnable}
 use Rattle.solve_outputs.specs.Inner.Handing.{settling, CanHandOut}
-use Rattle.solve_outputs.specs.Packed.{pack_solved, SolvedWithin, packed_solve, pack_solve_left}
+use Rattle.solve_outputs.specs.Packed.{SolvedWithin}
 use Rattle.solve_outputs.proofs.Codes.{entry_told}
 use Rattle.solve_outputs.proofs.Passed.{counts_fit, rows_fit, packable, packed_problem, names_whole, begins, handable}
 use Rattle.solve_outputs.proofs.Finished.{left_by_search, left_is_outcome}

@@ -1,7 +1,6 @@
 -- What the entry solve answers and leaves, whatever it is given: demand 3, and the verdict by the leaves that the
 -- search met, with what becomes of the lent memory.
-use Rattle.std.specs.Prelude.{◌≡◌, ◌⊎◌, ℕ, ◌%◌, ◌<◌, [], Ok, Err}
-use Rattle.std.proofs.Math.Option.{none, some}
+use Rattle.std.specs.Prelude.{◌≡◌, ◌⊎◌, ◌%◌, ◌<◌, [], Ok, Err}
 use Rattle.resolved_sort.specs.declared.Counts.{Counts}
 use Rattle.resolved_sort.specs.declared.Refusal.{Refusal}
 use Rattle.resolved_sort.specs.declared.Refusal.TheVariants.{SortsFull, NodesFull}

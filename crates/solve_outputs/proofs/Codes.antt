@@ -17,7 +17,6 @@ use Rattle.unification.specs.NodeChecks.{node_checks}
 use Rattle.unification.specs.Making.{Lent}
 use Rattle.resolved_sort.proofs.FailingNumber.{failing_number}
 use Rattle.resolved_sort.specs.declared.Refusal.TheVariants.{SortsFull, NodesFull}
-use Rattle.inference.specs.declared.Verdict.{Verdict}
 use Rattle.inference.specs.declared.Verdict.TheVariants.{NoTyping, Ambiguous, Typing}
 use Rattle.inference.specs.Search.{Candidate, World, Out, found, missed, ended}
 use Rattle.inference.specs.SolveChecks.{Call, given, solve_checks}

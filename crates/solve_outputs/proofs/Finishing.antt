@@ -28,7 +28,6 @@ use Rattle.search_state.specs.Inner.Solving.{Stays, OnlySorts, SameProblem}
 use Rattle.solve_outputs.specs.Handout.{solve_left_with}
 use Rattle.words.specs.Words.{part}
 use Rattle.words.proofs.Parts.{length_part}
-use Rattle.solve_checks.specs.declared.Given.{Given}
 use Rattle.solve_checks.specs.declared.Problem.{Problem}
 use Rattle.solve_checks.specs.Inner.Calls.{call_for, constraint_rows}
 use Rattle.solve_outputs.specs.Inner.Begin.{sizes_of}

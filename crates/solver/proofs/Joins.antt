@@ -39,7 +39,7 @@ use Rattle.search_state.specs.Inner.Memory.{measure_at, best_measure_at, choices
 use Rattle.search_state.specs.Inner.Memory.{best_of, world_of, solve_from, next_of}
 use Rattle.words.specs.Words.{part}
 use Rattle.search_state.specs.Inner.Leaves.{ChangedOnly, unify_pairs, PairsPlaced, path_after, agreement_of, AgreesOn, with_lengths}
-use Rattle.search_state.specs.Inner.Searching.{Sized, Searching, SourcesFine, Agreeing, SamePath, Done, Comes, trying}
+use Rattle.search_state.specs.Inner.Searching.{Sized, Searching, SourcesFine, SamePath, Done, Comes, trying}
 use Rattle.search_state.proofs.Parts.{part_before, part_after, take_unchanged}
 use Rattle.search_state.proofs.After.{searching_grown, done_as, done_after, same_path, or_stops, or_comes, grown_missed}
 use Rattle.solver.proofs.Ways.{sort_placed, after_missed}

@@ -35,7 +35,7 @@ use Rattle.inference.specs.Inner.Listed.{ListedConstraint, sub_listed, lit_liste
 use Rattle.search_state.specs.declared.Next.TheVariants.{Solve}
 use Rattle.search_state.specs.Inner.Memory.{overloads_at, source_at, problem_in, rest_from, chosen_exprs, measure_at, path_of, best_of, world_of, solve_from, next_of}
 use Rattle.words.specs.Words.{part}
-use Rattle.search_state.specs.Inner.Searching.{Searching, SourcesFine, AtLeaf, Comparable, Comes}
+use Rattle.search_state.specs.Inner.Searching.{Searching, SourcesFine, AtLeaf, Comes}
 use Rattle.search_state.proofs.After.{misses, done_as}
 use Rattle.solver.specs.Inner.Asked.{OverloadsFine, exprs_of_constraint, readings_from}
 

@@ -1,8 +1,8 @@
 -- What the search comes to at each way through its code, as the code meets it: each premise is what a callee ensures, what a test says or what a match
 -- binds. By the laws of one branch after another. Assumes nothing.
-use mathlib.Core.Path.{◌≡◌, refl, sym, ap, ap₂, ◌∙◌, subst}
+use mathlib.Core.Path.{◌≡◌, sym, ap, ap₂, ◌∙◌, subst}
 use mathlib.Core.List.{List, [], ◌∷◌}
-use Prim.Native.Nat.{ℕ, zero, suc, ◌+◌, ◌-◌, ◌*◌, ◌<◌, ◌≤◌}
+use Prim.Native.Nat.{ℕ, ◌+◌, ◌-◌, ◌*◌, ◌<◌, ◌≤◌}
 use native.Mathlib.Omega.{arith}
 use Rattle.unification.specs.declared.InferSortId.{InferSortId}
 use Rattle.unification.specs.declared.Lengths.{Lengths}
@@ -34,8 +34,7 @@ use Rattle.search_state.specs.Inner.Searching.{Searching, Done, Comes, trying}
 use Rattle.search_state.proofs.After.{searching_grown, misses, done_as, grown_missed, or_stops, or_comes}
 use Rattle.search_state.specs.Inner.Placed.{TryPlaced, TriesPlaced}
 use Rattle.search_steps.specs.Inner.Steps.{pairs_of}
-use Rattle.resolved_sort.specs.declared.ComplexSort.{ComplexSort}
-use Rattle.solver.specs.Inner.Asked.{TriesFine, reading_body, reading_op}
+use Rattle.solver.specs.Inner.Asked.{TriesFine}
 use Rattle.inference.proofs.Members.{rows_one_left, rows_none_left}
 
 -- the work left, above what any single constraint can take

@@ -1,5 +1,4 @@
 -- The loop's invariant: storing the rows of what is left comes to storing all. Assumes nothing.
-use Rattle.std.proofs.Common.{◌-◌}
 use Rattle.solve_outputs.proofs.Naming.{SortsLeft}
 use Rattle.solve_outputs.proofs.write_sorts.Given as goal
 
