@@ -2,20 +2,25 @@
 use mathlib.Core.Path.{◌≡◌, refl, sym, ◌∙◌, ap, subst}
 use mathlib.Core.Bool.{true}
 use mathlib.Core.List.{List}
+use mathlib.Core.Option.{none, some}
+use mathlib.Core.Option.{Option as Maybe}
 use Rattle.std.specs.Prelude.{Option, Some as Is, None as Nothing, Result, Ok, Err}
 use Rattle.resolved_sort.specs.declared.NoRoom.{NoRoom}
 use Prim.Native.Nat.{ℕ}
 use Rattle.resolved_sort.specs.declared.SortId.{SortId}
 use Rattle.resolved_sort.specs.declared.Counts.{Counts}
+use Rattle.resolved_sort.specs.declared.Steps.{Steps as StepsAnswer}
+use Rattle.resolved_sort.specs.Order.{Steps, steps_of}
 use Rattle.resolved_sort.specs.Entries.{Stored}
 use Rattle.resolved_sort.specs.Rows.{left_at}
 use Rattle.resolved_sort.specs.Bounds.{bound_at}
+use Rattle.resolved_sort.proofs.Reached.{no_confusion}
 use Rattle.unification.specs.declared.Lengths.{Lengths}
 use Rattle.unification.specs.Default.{Default}
 use Rattle.unification.specs.Nodes.{binds_of}
 use Rattle.unification.specs.Inner.Resolve.{value_in}
 use Rattle.unification.specs.Resolve.{term_resolved, with_counts}
-use Rattle.inference.specs.Search.{makes_sort, resolve_in, join_in}
+use Rattle.inference.specs.Search.{makes_sort, resolve_in, join_in, head_steps}
 use Rattle.search_state.specs.Inner.Leaves.{made_of}
 use Rattle.unification.specs.Making.{Makes}
 use Rattle.unification.specs.Inner.Making.{lent}
@@ -61,6 +66,15 @@ module _ (ws ns : List ℕ) (k : Lengths) (K : Counts) (eK : K ≡ record { sort
       pub join_ends : (x : NoRoom) → r ≡ Err x → (y : NoRoom) → made_of vs ns k (Err y) ≡ join_in a b (lent ws ns k)
       unfolding join_in
       join_ends x z y = ends (bound_at true ws k.sorts k.entries a b) same_bound x y z
+
+-- the head of a distance, where there is one
+pub head_is : (o : Maybe Steps) (d : StepsAnswer) (r : Option StepsAnswer) → r ≡ steps_of o → r ≡ Is d → d.head ≡ head_steps o
+head_is none d r e z = no_confusion (cc)
+head_is (some x) d r e z = cc
+
+pub no_head : (o : Maybe Steps) (r : Option StepsAnswer) → r ≡ steps_of o → r ≡ Nothing → 0 ≡ head_steps o
+no_head none r e z = refl
+no_head (some d) r e z = no_confusion (cc)
 
 -- the words that an interner held are the search's
 pub made_moved : (us vs : List ℕ) → vs ≡ us → (ns : List ℕ) (l : Lengths) (r : Result (Option SortId) NoRoom) (O : Makes ℕ)

@@ -4,7 +4,7 @@ use Rattle.resolved_sort.specs.declared.Refusal.{Refusal}
 use Rattle.resolved_sort.specs.Checks.{Numbered}
 use Rattle.entry_answers.specs.Packing.{CodeAndValues, coded_answer, yes_values, AnswerWithin}
 
--- 1 for a yes
+-- the number of a refusal, or 0 with 1 for a yes and 0 for a no
 abbrev pub coded_unified : Result Bool Refusal → CodeAndValues
 coded_unified = coded_answer yes_values
 
