@@ -1,18 +1,12 @@
--- Words copied whole: over as many words as there are, and from the first word to the last. Assumes nothing.
+-- A part of words has its length; words copied from the first to the last come to all of them. Assumes nothing.
 use mathlib.Core.Path.{◌≡◌, ap, ◌∙◌}
-use mathlib.Core.List.{List, ◌++◌, append-nil}
+use mathlib.Core.List.{List}
 use Prim.Native.Nat.{ℕ, ◌+◌, ◌≤◌}
 use native.Mathlib.Omega.{arith}
-use lib.ListN.{length, drop}
-use lib.Seq.{sets, sets-eq, drop-length, take_all}
+use lib.ListN.{length}
+use lib.Seq.{sets, take_all}
 use Rattle.words.specs.Words.{part}
 use Rattle.words.proofs.Parts.{length_part}
-
-stored_whole : (vs old : List ℕ) → length vs ≡ length old → sets old 0 vs ≡ vs
-stored_whole vs old h =
-    sets-eq vs old 0 (omega (arith, h))
-    ∙ (ap (λ n. vs ++ drop n old) (let z : 0 + length vs ≡ length old = omega (arith, h) in z)
-    ∙ (ap (λ r. vs ++ r) (drop-length old) ∙ append-nil vs))
 
 pub part_length : (a n : ℕ) (ws : List ℕ) → a + n ≤ length ws → length (part a n ws) ≡ n
 part_length = length_part
