@@ -343,8 +343,8 @@ fn widenings_in(
 }
 
 // The same over lists apart, with how much of them is in use then.
-// kept: the parts of a Search apart, since of an Arena made in `widenings_of` its two lists are lost to every fact as soon
-// as the Search, which holds a ghost fact, is written again (tried with locals and without, and in a block).
+// kept: the parts of a Search apart. Of an Arena made in `widenings_of` the lists are lost to every fact when the Search,
+// which holds a ghost fact, is written again; with its lists in locals, or in a block, no proof is generated.
 fn widenings_over(
     sorts: &mut [u16],
     nodes: &mut [u16],
