@@ -138,6 +138,13 @@ impl<'a> Row<'a> {
         }
     }
 
+    // The kind of the head.
+    pub fn kind(&self) -> u16
+        ensures { (s : Shape) → IsRow self.now s → result ≡ kind_head (head_of s) }
+    {
+        self.kind
+    }
+
     // Whether the head is that of a function.
     pub fn is_function(&self) -> bool
         ensures { (s : Shape) → IsRow self.now s

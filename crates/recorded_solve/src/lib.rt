@@ -79,6 +79,7 @@ const MOST_CODE: u64 = 255;
 const MOST_HANDED: u64 = 4095;
 
 // The slices of a list, in the order in which they stand and in which a line numbers them.
+// kept: beside Slice of list_memory, which stands in another order: a recorded line has the scratch last.
 #[derive(Clone, Copy, Debug, PartialEq, Eq)]
 pub enum Slice {
     Sorts,
@@ -100,6 +101,7 @@ pub enum Slice {
 pub struct NoSlice(pub u64);
 
 // The counts of a list, in the order in which they stand.
+// kept: beside Table of list_memory: these are counts of a call on slices, and no tables of that one memory.
 #[derive(Clone, Copy, Debug, PartialEq, Eq)]
 pub enum Count {
     Sorts,
@@ -163,7 +165,7 @@ impl TryFrom<u64> for Slice {
     type Error = NoSlice;
 
     ghost try_from_gives = { λ number slice.
-        MatchResult slice (λ s. slice_number s ≡ number) (λ _. last_slice < number) };
+        MatchResult slice (λ s. slice_number s ≡ number) (λ e. (last_slice < number) × (e.0 ≡ number)) };
 
     fn try_from(number: u64) -> Result<Self, NoSlice> {
         match number {

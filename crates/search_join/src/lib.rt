@@ -139,7 +139,8 @@ fn join_all(
 // The order, and join with it, also relates sorts that merc's lowering cannot materialize: containers by their
 // elements, functions by their arguments. A join that is reached only so is left to the widenings, which offer only
 // what converts.
-// kept: a loop and no `all`: each call asks that its sort is below the count, which the tests that go by `all` do not ask.
+// kept: a loop, tried as `all`: what that asks before it runs, that each sort it may hand on is below the count, was not
+// shown for the items of the slice.
 fn all_materializable(sorts: &Sorts, ids: &[SortId], lub: SortId) -> bool
     requires { AllBelow sorts.now.counts.sorts (sort_numbers ids.now)
         × (lub.0 < sorts.now.counts.sorts) }

@@ -224,6 +224,42 @@ pub fn lit_tries(kind: LitKind, id: InferSortId) -> Tries
     }
 }
 
+// What stands at the end of a literal's place, where no search is under way.
+pub fn lit_at_end(
+    sorts: &[u16],
+    nodes: &[u16],
+    binds: &[u16],
+    lengths: Lengths,
+    id: InferSortId,
+    kind: LitKind,
+) -> LitAt
+    requires { Ready sorts.now nodes.now binds.now lengths × Placed lengths id.0 }
+    ensures { result
+        ≡ lit_at kind (graph_of sorts.now nodes.now lengths)
+        (binds_of binds.now lengths.variables) id.0 }
+{
+    let places = Places {
+        sorts,
+        nodes,
+        lengths,
+    };
+    let bindings = Bindings { places, binds };
+    match Place::from(bindings.shallow_normalize(id)) {
+        Place::Sort(sort) => {
+            let counts = Counts::from(lengths);
+            let sorts = Sorts {
+                words: sorts,
+                counts,
+            };
+            lit_at_row(sorts.get(sort), kind)
+        }
+        Place::Node(at) => match places.node(at) {
+            InferSort::Var(_) => LitAt::Free,
+            _ => LitAt::Other,
+        },
+    }
+}
+
 // What stands at the end of a literal's place.
 pub fn lit_at(search: &Search<'_>, id: InferSortId, kind: LitKind) -> LitAt
     requires { Ready search.now.sorts.now search.now.nodes.now search.now.binds.now search.now.lengths
@@ -232,27 +268,10 @@ pub fn lit_at(search: &Search<'_>, id: InferSortId, kind: LitKind) -> LitAt
         ≡ lit_at kind (graph_of search.now.sorts.now search.now.nodes.now search.now.lengths)
         (binds_of search.now.binds.now search.now.lengths.variables) id.0 }
 {
-    let lengths = search.lengths;
-    let words = &*search.sorts;
+    let sorts = &*search.sorts;
     let nodes = &*search.nodes;
     let binds = &*search.binds;
-    let places = Places {
-        sorts: words,
-        nodes,
-        lengths,
-    };
-    let bindings = Bindings { places, binds };
-    match Place::from(bindings.shallow_normalize(id)) {
-        Place::Sort(sort) => {
-            let counts = Counts::from(lengths);
-            let sorts = Sorts { words, counts };
-            lit_at_row(sorts.get(sort), kind)
-        }
-        Place::Node(at) => match places.node(at) {
-            InferSort::Var(_) => LitAt::Free,
-            _ => LitAt::Other,
-        },
-    }
+    lit_at_end(sorts, nodes, binds, search.lengths, id, kind)
 }
 
 fn lit_at_row(row: ResolvedSort, kind: LitKind) -> LitAt
@@ -345,7 +364,7 @@ fn widenings_in(
 // The same over lists apart, with how much of them is in use then.
 // kept: the parts of a Search apart. Of an Arena made in `widenings_of` the lists are lost to every fact when the Search,
 // which holds a ghost fact, is written again; with its lists in locals, or in a block, no proof is generated.
-fn widenings_over(
+pub fn widenings_over(
     sorts: &mut [u16],
     nodes: &mut [u16],
     binds: &[u16],

@@ -63,7 +63,8 @@ fn at_most(n: usize) -> usize
 
 // The words of the records, up to the ceiling, and zeros after them. The array goes by value, so
 // that no caller has to lend it.
-// kept: by number, as the words of a record stand: its number tells where they go, and where the ceiling is.
+// kept: by number. Tried over `records[..n].iter().enumerate()`: each record is then one of those taken, and it takes two
+// laws more to say that it is the i-th of all, which is what the words are said of.
 fn unpack(records: &[OverloadRecord]) -> [u16; UNPACKED_WORDS]
     ensures { result ≡ unpacked records.now }
 {
