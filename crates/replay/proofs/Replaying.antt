@@ -8,7 +8,7 @@ use Rattle.std.specs.Io.KnownBytes.{Appends}
 use Rattle.replay.specs.declared.Verdict.{Verdict}
 use Rattle.replay.specs.declared.Tally.{Tally}
 use Rattle.replay.specs.Inner.Lines.{counted_of}
-use Rattle.replay.specs.Said.{said_of, end_said}
+use Rattle.replay.specs.Said.{end_said}
 use Rattle.replay.specs.Replays.{line_step, line_text, Run, started, after_line, after_lines, Replayed}
 
 pub appends_more : (a b c : Option (List ℕ)) (xs ys : List ℕ) → Appends a b xs → Appends b c ys → Appends a c (xs ++ ys)
@@ -20,11 +20,6 @@ appends_more (Some ms) (Some ns) (Some os) xs ys p q = q ∙ (ap (λ l. l ++ ys)
 pub nothing_more : (a : Option (List ℕ)) → Appends a a []
 nothing_more None = tt
 nothing_more (Some xs) = sym (append-nil xs)
-
-pub said_of_line : (a b : Option (List ℕ)) (t t' : Tally) (line : List ℕ) (v w : Verdict) → t' ≡ counted_of t v → v ≡ w
-    → Appends a b (said_of t'.lines line v) → Appends a b (line_text t line w)
-said_of_line a b t t' line v w e f h =
-    subst (λ x. Appends a b (line_text t line x)) f (subst (λ (x : Tally). Appends a b (said_of x.lines line v)) e h)
 
 module _ {S : Type 0} (step : S → ℕ → List ℕ → S × Verdict) (most : ℕ) where
   lines_then : (r : Run S) (ls : List (List ℕ)) (l : List ℕ) → after_lines step most r (ls ++ (l ∷ [])) ≡ after_line step most (after_lines step most r ls) l
