@@ -131,7 +131,8 @@ impl HeldLines {
 
     // Bytes of the input, as many as the buffer has room for the output of.
     pub fn feed(&mut self, bytes: &[u8], out: &mut [u8]) -> Fed
-        ensures { Feeds self.old.memory self.old.held bytes.now out.old
+        ensures held { result.held ≡ self.new.held }
+        ensures feeds { Feeds self.old.memory self.old.held bytes.now out.old
             self.new.memory self.new.held out.new result.used result.at }
     {
         let fed = feed(&mut self.memory, self.held, bytes, out);

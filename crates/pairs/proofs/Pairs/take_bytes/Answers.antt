@@ -8,12 +8,12 @@ pub loop-from-init : goal.loop-from-init
 loop-from-init g c = law.none_taken_yet _ _ _ _ (omega arith)
 
 pub write-requires : goal.write-requires
-write-requires g c = law.put_within _ _ _ _ _ _ _ _ c.loop-from.invariant c.loop-from-test.true _ _ _ _ _ c.feed-fed.ensures
+write-requires g c = law.put_within _ _ _ _ _ _ _ _ c.loop-from.invariant c.loop-from-test.true _ _ _ _ _ c.feed-fed.ensures.feeds
 
 pub loop-from-smaller : goal.loop-from-smaller
-loop-from-smaller g c = law.less_left _ _ _ _ _ _ _ _ c.loop-from.invariant c.loop-from-test.true _ _ _ _ _ c.feed-fed.ensures
+loop-from-smaller g c = law.less_left _ _ _ _ _ _ _ _ c.loop-from.invariant c.loop-from-test.true _ _ _ _ _ c.feed-fed.ensures.feeds
 
 pub loop-from-preserved : goal.loop-from-preserved
 loop-from-preserved g c =
-    law.part_taken _ _ _ _ _ _ _ _ c.loop-from.invariant c.loop-from-test.true _ _ _ _ _ c.feed-fed.ensures
+    law.part_taken _ _ _ _ _ _ _ _ c.loop-from.invariant c.loop-from-test.true _ _ _ _ _ c.feed-fed.ensures.feeds
     _ (ap held_in c.write.ensures.kept.0) _ c.write.ensures.kept.1 _ c.in_ok-write.ensures.written
