@@ -4,3 +4,4 @@ pub mod Found
 pub mod Answers
 pub mod Inner
 pub mod Lines
+pub mod Messages

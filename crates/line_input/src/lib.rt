@@ -5,8 +5,9 @@
 // `next_line` take its lines, each once, the last one without LF too (`every_line_once`).
 #![tactic(auto)]
 
-ghost use Rattle.std.specs.Prelude.{◌≡◌, ◌≤◌, length};
+ghost use Rattle.std.specs.Prelude.{◌≡◌, ◌≤◌, length, Some};
 ghost use Rattle.line_input.specs.Lines.{LineRead, SameMemory, seen};
+ghost use Rattle.line_input.specs.Messages.{failed_text};
 ghost use Rattle.line_input.specs.Inner.Answers.{Takes};
 ghost use Rattle.line_input.specs.Inner.Lines.{FilledBy, found_where};
 
@@ -23,6 +24,9 @@ pub enum Failed {
 }
 
 impl fmt::Display for Failed {
+    ghost output = { λ failed. Some (failed_text failed) };
+
+    #[tactic(auto, unfolding(crate::specs::Messages::failed_text))]
     fn fmt<W: fmt::Write>(&self, f: &mut fmt::Formatter<W>) -> fmt::Result {
         match self {
             Failed::Input => write!(f, "the input cannot be read"),

@@ -292,10 +292,6 @@ feeds_some memory held bytes out memory₁ held₁ out₁ zero at f b l = absurd
 feeds_some memory held bytes out memory₁ held₁ out₁ (suc used) at f b l = omega arith
 
 -- an empty memory
-pub none_held : (memory : List ℕ) → most_held + most_held ≤ length memory → Holds memory (First 0)
-unfolding Fits
-none_held memory l = record { fits = omega arith; long = l }
-
 pub nothing_held : (memory : List ℕ) → lines_of memory (First 0) ≡ first []
 unfolding lines_of
 nothing_held memory = refl

@@ -1,4 +1,5 @@
--- What putting bytes leaves.
+-- What putting bytes leaves; and texts and numbers, computed.
 pub mod Within
 pub mod Put
 pub mod Outs
+pub mod Examples
