@@ -3,3 +3,4 @@ pub mod Refusals
 pub mod Packing
 pub mod SortsLeft
 pub mod RanOut
+pub mod Clauses

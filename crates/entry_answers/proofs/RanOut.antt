@@ -85,6 +85,6 @@ mutual
       (λ v S₁. ends_then (makes up ss ts S₁) _ (makes_end up ss ts S₁) (λ vs S₂. made_ends (arg v vs) S₂))
 
 -- of a list that grew from the given one
-pub ran_out : (ws : List ℕ) (n e : ℕ) (A : Type 0) (S : Sorts) → Grown ws n e S → Ends {A = A} (full S) → RanOut ws n e
+unfoldable pub ran_out : (ws : List ℕ) (n e : ℕ) (A : Type 0) (S : Sorts) → Grown ws n e S → Ends {A = A} (full S) → RanOut ws n e
 unfolding Ends
 ran_out ws n e A S g w = record { so_far = S; grown = g; wanted = w.wanted; absent = w.absent; too_big = w.too_big }

@@ -12,16 +12,19 @@ use lib.Dec.{eqb, leb}
 use native.Mathlib.Decide.{dec_lt}
 use borrow.Author.Tests.{leb-true, le-leb}
 use Rattle.std.specs.Prelude.{Ok}
+use Rattle.std.proofs.lemmas.List.{ext_get_or}
 use Rattle.words.specs.Words.{zeros}
 use Rattle.resolved_sort.specs.Tree.{Tree}
-use Rattle.resolved_sort.specs.Interning.{Sorts, look, need, distinct}
-use Rattle.resolved_sort.specs.Storage.{max_sorts, max_entries, entries_at, function_kind, kind_at, entry_at, Row, trees, row_of, put_row}
+use Rattle.resolved_sort.specs.Interning.{Sorts, look, number, need, distinct}
+use Rattle.resolved_sort.specs.Storage.{max_sorts, max_entries, row_words, entries_at, function_kind, kind_at, entry_at, Row, trees, row_of, put_row}
 use Rattle.resolved_sort.specs.Storage.{append_row, append, written, given_back}
 use Rattle.resolved_sort.specs.Checks.{within_lent, fixed_six, all_below, row_fine_of, rows_fine, no_two_equal, first_failing, sort_checks}
-use Rattle.resolved_sort.specs.Entries.{counts_of, after}
+use Rattle.resolved_sort.specs.Entries.{tree_at, counts_of, after}
 use Rattle.resolved_sort.specs.Rows.{Checked}
 use Rattle.resolved_sort.specs.Growing.{Agrees, Grown, needs}
 use Rattle.resolved_sort.proofs.Below.{below_each, each_below}
+use Rattle.resolved_sort.proofs.Numbers.{number_look}
+use Rattle.resolved_sort.proofs.Interned.{listed, trees_differ}
 use Rattle.resolved_sort.proofs.Trees.{length_trees}
 use Rattle.resolved_sort.proofs.RowTrees.{Within, row_within}
 use Rattle.resolved_sort.proofs.Fine.{run_inside, row_fine}
@@ -243,3 +246,33 @@ module _ (ws : List ℕ) (n e : ℕ) (k : Checked ws n e) where
         zero_entries = λ j h. zero_entry_by j h (dec_lt (entries_at + j) (length ws));
         again = checks_pass us n e (checked_agrees ws us n e agree as_long k) (six_agree ws us n n e agree (omega arith) six);
       }
+
+-- words given back are determined: below the counts they are the given ones, past them zero, and they are as many
+module _ (ws : List ℕ) (n e : ℕ) (vs us : List ℕ) (p : SortsPutBack ws n e vs) (q : SortsPutBack ws n e us) where
+  word_by : (i : ℕ) → get_or vs i 0 ≡ get_or us i 0
+  word_by i = elim (dec_lt i entries_at) [
+    | yes l ↦ elim (dec_lt i (row_words * n)) [
+      | yes h ↦ p.given.rows i h ∙ sym (q.given.rows i h)
+      | no h ↦ p.zero_rows i (omega (arith, h)) l ∙ sym (q.zero_rows i (omega (arith, h)) l)
+    ]
+    | no l ↦
+        let z : entries_at + (i - entries_at) ≡ i = omega (arith, l) in
+        sym (ap (λ k. get_or vs k 0) z) ∙ (entry_by (i - entries_at) ∙ ap (λ k. get_or us k 0) z)
+  ]
+    where
+      entry_by : (j : ℕ) → entry_at vs j ≡ entry_at us j
+      entry_by j = elim (dec_lt j e) [
+        | yes h ↦ p.given.entries j h ∙ sym (q.given.entries j h)
+        | no h ↦ p.zero_entries j (omega (arith, h)) ∙ sym (q.zero_entries j (omega (arith, h)))
+      ]
+
+  pub put_back_once : vs ≡ us
+  put_back_once = ext_get_or 0 vs us (p.given.as_long ∙ sym q.given.as_long) (λ i h. word_by i)
+
+-- a sort that stands in words that grew has its own number there
+pub own_number : (ws : List ℕ) (n e : ℕ) (S : Sorts) → Grown ws n e S → (i : ℕ) → i < length S.trees
+    → number S.trees (tree_at (after ws n e S) (length S.trees) i) ≡ i
+own_number ws n e S g i h =
+    ap (λ T. number S.trees (look T i)) g.reads
+    ∙ number_look S.trees i
+    (subst (λ T. distinct T ≡ true) g.reads (trees_differ (after ws n e S) (length S.trees) (max_entries - S.entries) (listed g.checked))) h

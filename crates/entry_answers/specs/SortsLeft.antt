@@ -6,7 +6,7 @@ use Rattle.resolved_sort.specs.Tree.{Tree}
 use Rattle.resolved_sort.specs.Interning.{Sorts, member, fits}
 use Rattle.resolved_sort.specs.Storage.{row_words, entries_at, entry_at}
 use Rattle.resolved_sort.specs.Checks.{first_failing, sort_checks}
-use Rattle.resolved_sort.specs.Entries.{tree_at}
+use Rattle.resolved_sort.specs.Entries.{tree_at, counts_of, after}
 use Rattle.resolved_sort.specs.Growing.{Grown}
 
 -- the words of the given rows and entries are as they were
@@ -25,6 +25,11 @@ pub record SortsGrew (ws : List ℕ) (n e : ℕ) (vs : List ℕ) (k : Counts) : 
   pub past_rows : (i : ℕ) → row_words * k.sorts ≤ i → i < entries_at → get_or vs i 0 ≡ get_or ws i 0
   pub past_entries : (j : ℕ) → k.entries ≤ j → entry_at vs j ≡ entry_at ws j
   pub again : first_failing (sort_checks vs k.sorts k.entries) ≡ Ok tt
+
+-- The words and counts are those that making left: the sorts of S are then in the list.
+pub record LeftBy (ws : List ℕ) (n e : ℕ) (vs : List ℕ) (k : Counts) (S : Sorts) : Type 0 where
+  pub words : vs ≡ after ws n e S
+  pub counts : k ≡ counts_of S
 
 -- 15 gives back: "rows past the entry lengths are zero".
 pub record SortsPutBack (ws : List ℕ) (n e : ℕ) (vs : List ℕ) : Type 0 where

@@ -22,6 +22,7 @@ pub mod Costs
 pub mod NoConstraints
 pub mod ListsLeft
 pub mod OutputsLeft
+pub mod RowsPast
 -- the leaves that are met: the order of measures, the verdict, choices and names
 pub mod Measures
 pub mod Forgets

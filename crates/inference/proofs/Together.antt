@@ -89,18 +89,18 @@ module _ (W₀ : Lent) (B₀ : Binds) (P : Problem) (ch : List Choice) (ρ : Ass
   all_met _ _ (and_costs c cs ns ms x y) = and_all c cs (costs_meet c ns x) (all_met cs ms y)
 
 -- as many sorts as places
-typed_long : (W₀ : Lent) (look : ℕ → Tree) (ρ : Assignment) (ps ss : List ℕ) → Typed (graph W₀) look ρ ps ss → length ss ≡ length ps
+pub typed_long : (W₀ : Lent) (look : ℕ → Tree) (ρ : Assignment) (ps ss : List ℕ) → Typed (graph W₀) look ρ ps ss → length ss ≡ length ps
 typed_long W₀ look ρ _ _ all_typed = refl
 typed_long W₀ look ρ _ _ (and_typed p s ps ss h t) = ap suc (typed_long W₀ look ρ ps ss t)
 
 module _ (I : Call) where
-  abbrev W₀ : Lent
+  abbrev pub W₀ : Lent
   W₀ = lent_of I
 
-  abbrev B₀ : Binds
+  abbrev pub B₀ : Binds
   B₀ = binds_of I.binds I.lengths.variables
 
-  abbrev P : Problem
+  abbrev pub P : Problem
   P = problem_of I
 
   -- The search of a call that is accepted leaves a fine incumbent.
@@ -111,18 +111,33 @@ module _ (I : Call) where
       A.constraints (start_path I) (record { lent = W₀; best = none; met = m })
       (record { grown = grows_refl W₀ A.ready.nodes; binds = A.ready.binds; refines = λ σ r. r; costs = λ ρ r. nothing_costs }) tt
 
-  explained : (W : Lent) (c : Candidate) → Fine W₀ B₀ P W c → (o : Outputs) → (judged_by I W c false).answer ≡ Ok (Typing o) → Explained I (judged_by I W c false) o
+  -- What is handed out of a candidate: its sorts, measure and choices.
+  pub hands_out_candidate : (W : Lent) (c : Candidate) → Fine W₀ B₀ P W c → (o : Outputs) → (judged_by I W c false).answer ≡ Ok (Typing o)
+      → (sorts_out I (judged_by I W c false) ≡ c.sorts) × (measure_out (judged_by I W c false) o ≡ c.measure)
+      × (choices_out (judged_by I W c false) o ≡ c.choices)
+  hands_out_candidate W c f o e =
+      let L : SolveLeft = judged_by I W c false in
+      let q : o ≡ record { counts = counts_in W; components = length c.measure; choices = length c.choices } = cc in
+      let many : length c.sorts ≡ I.rows.exprs = typed_long W₀ (sort_in W) f.assignment P.exprs c.sorts
+      f.typed ∙ length_rows (λ i. get_or I.exprs i 0) 0 I.rows.exprs in (
+        rows_are 0 c.sorts (λ i. get_or L.typing (3 * i) 0) 0 I.rows.exprs (sym many)
+            (λ j l. ap (λ (i : ℕ). get_or L.typing i 0) (omega arith) ∙ sort_row P (base_names_of I) c.choices 0 c.sorts _ j l),
+        ap (λ (z : Outputs). measure_out L z) q ∙ take-append_seam c.measure _,
+        ap (λ (z : Outputs). choices_out L z) q ∙ choices_read c.choices _,
+      )
+
+  explained : (W : Lent) (c : Candidate) → Fine W₀ B₀ P W c → (o : Outputs) → (judged_by I W c false).answer ≡ Ok (Typing o)
+      → Explained I (judged_by I W c false) o
   explained W c f o e =
       let L : SolveLeft = judged_by I W c false in
       let q : o ≡ record { counts = counts_in W; components = length c.measure; choices = length c.choices } = cc in
       let x : o.counts.sorts ≡ W.lengths.sorts = ap (λ (z : Outputs). z.counts.sorts) q in
       let many : length c.sorts ≡ I.rows.exprs = typed_long W₀ (sort_in W) f.assignment P.exprs c.sorts
       f.typed ∙ length_rows (λ i. get_or I.exprs i 0) 0 I.rows.exprs in
-      let ss : sorts_out I L ≡ c.sorts =
-      rows_are 0 c.sorts (λ i. get_or L.typing (3 * i) 0) 0 I.rows.exprs (sym many)
-      (λ j l. ap (λ (i : ℕ). get_or L.typing i 0) (omega arith) ∙ sort_row P (base_names_of I) c.choices 0 c.sorts _ j l) in
-      let ms : measure_out L o ≡ c.measure = ap (λ (z : Outputs). measure_out L z) q ∙ take-append_seam c.measure _ in
-      let ks : choices_out L o ≡ c.choices = ap (λ (z : Outputs). choices_out L z) q ∙ choices_read c.choices _ in
+      let h = hands_out_candidate W c f o e in
+      let ss : sorts_out I L ≡ c.sorts = h.0 in
+      let ms : measure_out L o ≡ c.measure = h.1 in
+      let ks : choices_out L o ≡ c.choices = h.2 in
       record {
         assignment = f.assignment;
         bound = λ v p r. sym (f.respects v p r);

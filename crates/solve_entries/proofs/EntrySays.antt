@@ -3,7 +3,7 @@
 -- answer tells all answers apart, so it says the same. Assumes nothing.
 use mathlib.Core.Path.{◌≡◌, refl, sym, ap, subst, ◌∙◌}
 use mathlib.Core.Bool.{Bool, true, false}
-use mathlib.Core.List.{List}
+use mathlib.Core.List.{List, []}
 use mathlib.Core.Option.{Option, none, some}
 use mathlib.Core.Logic.{◌⊎◌, inl, inr}
 use Prim.Native.Nat.{ℕ}
@@ -12,6 +12,7 @@ use lib.ListN.{length, take, drop}
 use lib.Seq.{take-append_seam}
 use Rattle.std.specs.Prelude.{Ok, Err}
 use Rattle.resolved_sort.specs.declared.Counts.{Counts}
+use Rattle.resolved_sort.specs.declared.Refusal.{Refusal}
 use Rattle.resolved_sort.specs.declared.Refusal.TheVariants.{SortsFull, NodesFull}
 use Rattle.resolved_sort.specs.Storage.{given_back}
 use Rattle.resolved_sort.specs.Checks.{first_failing, Tested}
@@ -22,14 +23,18 @@ use Rattle.inference.specs.declared.Verdict.TheVariants.{NoTyping, Ambiguous, Ty
 use Rattle.inference.specs.Measure.{Components}
 use Rattle.inference.specs.Search.{Candidate, Out, found, missed, ended}
 use Rattle.inference.specs.SolveChecks.{Call, solve_checks}
-use Rattle.inference.specs.SolveEntry.{Solved, SolveLeft, searched, refused, judged, judged_by, verdict, nothing_met, solve_entry, code_solved, measure_out, TypingOr15}
-use Rattle.inference.specs.Leaves.{times, Least, leaves_met, HandsOut, ByLeaves}
+use Rattle.inference.specs.SolveEntry.{Solved, SolveLeft, searched, refused, counts_in, judged, judged_by, verdict, nothing_met, solve_entry}
+use Rattle.inference.specs.SolveEntry.{code_solved, sorts_out, measure_out, choices_out, TypingOr15}
+use Rattle.inference.specs.Leaves.{times, Least, measure_met, history, leaves_met, HandsOut, ByLeaves}
 use Rattle.inference.specs.ListsLeft.{counts_told}
-use Rattle.inference.proofs.Accepted.{passed_is_searched}
-use Rattle.inference.proofs.Together.{every_typing_is_explained, typing_holds_together}
+use Rattle.inference.proofs.Forgets.{history_has_the_verdict}
+use Rattle.inference.proofs.Invariant.{Fine, FineBest, Leaves as SearchLeaves}
+use Rattle.inference.proofs.Accepted.{accepted, passed_is_searched}
+use Rattle.inference.proofs.Together.{W₀, B₀, P, search_leaves, hands_out_candidate, every_typing_is_explained, typing_holds_together}
 use Rattle.inference.proofs.Choices.{names_and_choices}
 use Rattle.inference.proofs.LeavesMet.{verdict_by_leaves}
 use Rattle.inference.proofs.ListsLeft.{sorts_only_grow}
+use Rattle.inference.proofs.RowsPast.{rows_past_untouched}
 use Rattle.inference.proofs.NoConstraints.{no_constraints_is_a_typing}
 use Rattle.solve_checks.specs.declared.Given.{Given}
 use Rattle.solve_checks.specs.Call.{call_of}
@@ -37,7 +42,8 @@ use Rattle.solve_outputs.specs.Finish.{solve_left}
 use Rattle.solve_outputs.specs.Packed.{PackedSolve, packed_solve, pack_solve_left}
 use Rattle.solve_outputs.proofs.Codes.{Searched, searched_answers, refused_by_number, entry_told, code_is_low_byte, packed_tells}
 use Rattle.solve_entries.specs.Given.{given_of}
-use Rattle.solve_entries.specs.Says.{Cleared, OutputsAsGiven, Constrained, SaysSearched, SaysBy, EntrySays, PackedSays}
+use Rattle.solve_entries.specs.Says.{HadRoom, RoomEndedAs, lent_at_end, best_at_end, Cleared, OutputsAsGiven, Constrained, SaysSearched}
+use Rattle.solve_entries.specs.Says.{OfIncumbent, SaysBy, EntrySays, PackedSays}
 
 -- What a search leaves of the memory beside sorts and a typing.
 module _ (I : Call) where
@@ -63,11 +69,78 @@ module _ (I : Call) where
   verdict_leaves (missed w) = best_leaves w.lent w.best
   verdict_leaves (ended c W) = (record { nodes = refl; binds = refl; scratch = refl }, (refl, record { typing = refl; measure = refl; choices = refl }))
 
+  -- An answer beside a refusal is of a search that had room, and a refusal of one that ended for want of it.
+  abbrev NotRefused : Solved → Type 0
+  NotRefused (Ok v) = Unit {0}
+  NotRefused (Err r) = ⊥
+
+  tie_not_refused : (W : Lent) (c : Candidate) (b : Bool) → NotRefused (judged_by I W c b).answer
+  tie_not_refused W c true = tt
+  tie_not_refused W c false = tt
+
+  best_not_refused : (W : Lent) (b : Option Candidate) → NotRefused (judged I W b).answer
+  best_not_refused W none = tt
+  best_not_refused W (some c) = tie_not_refused W c c.duplicate
+
+  room_by_answer : (H : Out (List Components)) (r : Solved) → (verdict I H).answer ≡ r → NotRefused r → HadRoom H
+  room_by_answer (found w) r e n = tt
+  room_by_answer (missed w) r e n = tt
+  room_by_answer (ended c W) r e n = subst NotRefused (sym e) n
+
+  ended_by_answer : (H : Out (List Components)) (r : Refusal) → (verdict I H).answer ≡ Err r → RoomEndedAs r H
+  ended_by_answer (found w) r e = subst NotRefused e (best_not_refused w.lent w.best)
+  ended_by_answer (missed w) r e = subst NotRefused e (best_not_refused w.lent w.best)
+  ended_by_answer (ended c W) r e = cc
+
+  -- The sorts and their counts are those of the search's end, and a typing is its incumbent.
+  abbrev MadeBy : SolveLeft → Lent → Type 0
+  MadeBy M W = (k : Counts) → counts_told M.answer ≡ some k → (M.sorts ≡ W.sorts) × (k ≡ counts_in W)
+
+  tie_made : (W : Lent) (c : Candidate) (b : Bool) → MadeBy (judged_by I W c b) W
+  tie_made W c true k e = (refl, cc)
+  tie_made W c false k e = (refl, cc)
+
+  best_made : (W : Lent) (b : Option Candidate) → MadeBy (judged I W b) W
+  best_made W none k e = (refl, cc)
+  best_made W (some c) k e = tie_made W c c.duplicate k e
+
+  verdict_made : (H : Out (List Components)) → MadeBy (verdict I H) (lent_at_end H)
+  verdict_made (found w) k e = best_made w.lent w.best k e
+  verdict_made (missed w) k e = best_made w.lent w.best k e
+  verdict_made (ended c W) k e = no_confusion cc
+
+  abbrev Incumbent : SolveLeft → Outputs → Option Candidate → Type 0
+  Incumbent M o b = (c : Candidate) × (b ≡ some c) × (sorts_out I M ≡ c.sorts) × (choices_out M o ≡ c.choices)
+
+  tie_incumbent : (W : Lent) (c : Candidate) → Fine (W₀ I) (B₀ I) (P I) W c → (o : Outputs) (b : Bool)
+      → (judged_by I W c b).answer ≡ Ok (Typing o) → Incumbent (judged_by I W c b) o (some c)
+  tie_incumbent W c f o true e = no_confusion cc
+  tie_incumbent W c f o false e = let h = hands_out_candidate I W c f o e in (c, refl, h.0, h.2)
+
+  best_incumbent : (W : Lent) (b : Option Candidate) → FineBest (W₀ I) (B₀ I) (P I) W b → (o : Outputs)
+      → (judged I W b).answer ≡ Ok (Typing o) → Incumbent (judged I W b) o b
+  unfolding FineBest
+  best_incumbent W none f o e = no_confusion cc
+  best_incumbent W (some c) f o e = tie_incumbent W c f o c.duplicate e
+
+  verdict_incumbent : (H : Out (List Components)) → SearchLeaves (W₀ I) (B₀ I) (P I) (List Components) (W₀ I) H → (o : Outputs)
+      → (verdict I H).answer ≡ Ok (Typing o) → Incumbent (verdict I H) o (best_at_end H)
+  unfolding SearchLeaves
+  verdict_incumbent (found w) l o e = best_incumbent w.lent w.best l.best o e
+  verdict_incumbent (missed w) l o e = best_incumbent w.lent w.best l.best o e
+  verdict_incumbent (ended c W) l o e = no_confusion cc
+
   abbrev L : SolveLeft
   L = solve_entry I
 
   -- where every check passes, by the answer
   module _ (f : first_failing (solve_checks I) ≡ Ok tt) where
+    by_history : L ≡ verdict I (history I)
+    by_history = passed_is_searched I f ∙ sym (history_has_the_verdict I)
+
+    answered : (r : Solved) → L.answer ≡ r → (verdict I (history I)).answer ≡ r
+    answered r e = sym (ap (λ (M : SolveLeft). M.answer) by_history) ∙ e
+
     left : Leaves L
     left = subst Leaves (sym (passed_is_searched I f)) (verdict_leaves (searched (Unit {0}) nothing_met tt I))
 
@@ -80,16 +153,27 @@ module _ (I : Call) where
         go (inr x) = n (sym e ∙ x)
 
     -- an answer of a search that had room
-    module _ (r : Solved) (e : L.answer ≡ r) (k : Counts) (told : counts_told r ≡ some k) (c : ℕ) (code : code_solved r ≡ c)
+    module _ (r : Solved) (e : L.answer ≡ r) (n : NotRefused r) (k : Counts) (told : counts_told r ≡ some k) (c : ℕ) (code : code_solved r ≡ c)
         (not-15 : c ≡ 15 → ⊥) (not_16 : c ≡ 16 → ⊥) where
       had_room : SaysSearched I L k
       had_room =
+          let m = subst (λ M. MadeBy M (lent_at_end (history I))) (sym by_history) (verdict_made (history I)) k (ap counts_told e ∙ told) in
           record {
             passed = f;
+            had_room = room_by_answer (history I) r (answered r e) n;
             by_leaves = verdict_by_leaves I f (λ x. not-15 (sym code ∙ (sym (ap code_solved e) ∙ x))) (λ x. not_16 (sym code ∙ (sym (ap code_solved e) ∙ x)));
             sorts = sorts_only_grow I k (ap counts_told e ∙ told);
+            made = m.0;
+            counted = m.1;
             memory = left.0;
           }
+
+    -- what is handed out is the incumbent
+    of_incumbent : (o : Outputs) → L.answer ≡ Ok (Typing o) → OfIncumbent I L o
+    of_incumbent o e =
+        let x = subst (λ M. Incumbent M o (best_at_end (history I))) (sym by_history)
+        (verdict_incumbent (history I) (search_leaves I (accepted I f) (List Components) measure_met []) o (answered (Ok (Typing o)) e)) in
+        record { candidate = x.0; is = x.1; sorts = x.2; choices = x.3 }
 
     -- the measure handed out is the least
     module _ (o : Outputs) (e : L.answer ≡ Ok (Typing o)) (B : ByLeaves I L (leaves_met I)) where
@@ -110,14 +194,23 @@ module _ (I : Call) where
 
     by_answer : (r : Solved) → L.answer ≡ r → Searched I r → Kept L r → SaysBy I L r
     unfolding code_solved
-    by_answer (Err r) e s k = inr (record { passed = f; room = room s; sorts = k.0; memory = left.0; outputs = k.1 })
+    by_answer (Err r) e s k =
+        inr
+        (record {
+          passed = f;
+          ended_so = ended_by_answer (history I) r (answered (Err r) e);
+          room = room s;
+          sorts = k.0;
+          memory = left.0;
+          outputs = k.1;
+        })
       where
         room : (r ≡ SortsFull) ⊎ (r ≡ NodesFull) → (r ≡ SortsFull) ⊎ ((r ≡ NodesFull) × Constrained I L)
         room (inl i) = inl i
         room (inr i) =
             inr (i, constrained (Err r) e (λ o x. no_confusion cc) (λ x. let y : NodesFull ≡ SortsFull = cc (x, i) in no_confusion cc))
     by_answer (Ok (NoTyping n)) e s k =
-        let h = had_room (Ok (NoTyping n)) e n refl 17 refl (λ x. omega (arith, x)) (λ x. omega (arith, x)) in
+        let h = had_room (Ok (NoTyping n)) e tt n refl 17 refl (λ x. omega (arith, x)) (λ x. omega (arith, x)) in
         record {
           searched = h;
           no_leaf = h.by_leaves.none_met.0 (ap code_solved e);
@@ -125,7 +218,7 @@ module _ (I : Call) where
           outputs = k;
         }
     by_answer (Ok (Ambiguous n)) e s k =
-        let h = had_room (Ok (Ambiguous n)) e n refl 18 refl (λ x. omega (arith, x)) (λ x. omega (arith, x)) in
+        let h = had_room (Ok (Ambiguous n)) e tt n refl 18 refl (λ x. omega (arith, x)) (λ x. omega (arith, x)) in
         record {
           searched = h;
           tied = h.by_leaves.least_met_often.0 (ap code_solved e);
@@ -133,19 +226,21 @@ module _ (I : Call) where
           outputs = k;
         }
     by_answer (Ok (Typing o)) e s k =
-        let h = had_room (Ok (Typing o)) e o.counts refl 0 refl (λ x. omega (arith, x)) (λ x. omega (arith, x)) in
+        let h = had_room (Ok (Typing o)) e tt o.counts refl 0 refl (λ x. omega (arith, x)) (λ x. omega (arith, x)) in
         let m = least_out o e h.by_leaves in
         record {
           searched = h;
           together = typing_holds_together I o e;
+          incumbent = of_incumbent o e;
           explained = every_typing_is_explained I o e;
           named = names_and_choices I o e;
           least = m.0;
           once = m.1;
+          rows = rows_past_untouched I o e;
         }
 
   -- whatever the call is
-  outcome_says : EntrySays I L
+  pub outcome_says : EntrySays I L
   unfolding solve_entry
   outcome_says = go (first_failing (solve_checks I)) refl
     where
@@ -180,5 +275,6 @@ module _ (n e m d v x k c o s t : ℕ) (ws ns bs xs ks cs os ss sc ts ms hs : Li
   abbrev called : Call
   called = call_of (given_of n e m d v x k c o s t) ws ns bs xs ks cs os ss sc ts ms hs
 
-  pub export_says : packed_solve r ws' ns' bs' sc' ts' ms' hs' ≡ pack_solve_left (solve_entry called) → PackedSays called (packed_solve r ws' ns' bs' sc' ts' ms' hs')
+  pub export_says : packed_solve r ws' ns' bs' sc' ts' ms' hs' ≡ pack_solve_left (solve_entry called)
+      → PackedSays called (packed_solve r ws' ns' bs' sc' ts' ms' hs')
   export_says q = packed_says called (packed_solve r ws' ns' bs' sc' ts' ms' hs') q

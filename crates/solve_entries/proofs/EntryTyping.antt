@@ -1,8 +1,8 @@
 -- What the statement about the entry (`EntrySays`) comes to: demand 3, the verdict by leaves, and what is left of the memory, each for itself; and that it
--- leaves a call that has room one verdict only, and a typing one measure. The same of a packed answer by its low byte. By the cases of the
+-- leaves a call one verdict only, and a typing one measure. The same of a packed answer by its low byte. By the cases of the
 -- answer. Assumes nothing.
 use mathlib.Core.Path.{◌≡◌, refl, sym, ap, subst, ◌∙◌}
-use mathlib.Core.List.{[]}
+use mathlib.Core.List.{List, []}
 use mathlib.Core.Option.{some}
 use mathlib.Core.Logic.{◌⊎◌, ◌↔◌, inl, inr}
 use Prim.Native.Nat.{ℕ, ◌%◌, ◌<◌}
@@ -21,18 +21,18 @@ use Rattle.unification.specs.Making.{graph}
 use Rattle.inference.specs.declared.Outputs.{Outputs}
 use Rattle.inference.specs.declared.Verdict.TheVariants.{NoTyping, Ambiguous, Typing}
 use Rattle.inference.specs.Measure.{Components}
-use Rattle.inference.specs.Search.{sort_in}
+use Rattle.inference.specs.Search.{Out, found, missed, ended, sort_in}
 use Rattle.inference.specs.SolveChecks.{Call, solve_checks}
 use Rattle.inference.specs.SolveEntry.{Solved, SolveLeft, problem_of, lent_of, nodes_given_back, code_solved, sorts_out, measure_out, choices_out, TypingOr15}
 use Rattle.inference.specs.Typing.{In, HoldsTogether}
 use Rattle.inference.specs.Explained.{Explained}
 use Rattle.inference.specs.Named.{Named}
-use Rattle.inference.specs.Leaves.{times, Least, leaves_met, code_left, ByLeaves}
+use Rattle.inference.specs.Leaves.{times, Least, history, leaves_met, code_left, ByLeaves}
 use Rattle.inference.specs.ListsLeft.{counts_told, SortsGrown}
 use Rattle.inference.proofs.Members.{not_in_nothing}
 use Rattle.inference.proofs.LeavesMet.{least_is_one}
 use Rattle.solve_outputs.specs.Packed.{pack_solved, SolvedWithin, PackedSolve}
-use Rattle.solve_entries.specs.Says.{SaysTyping, SaysBy, EntrySays, left_of, PackedSays}
+use Rattle.solve_entries.specs.Says.{HadRoom, RoomEndedAs, SaysTyping, SaysBy, EntrySays, left_of, PackedSays}
 
 -- a refusal because room ended, 15 or 16
 abbrev pub RoomEnded : Refusal → Type 0
@@ -48,7 +48,8 @@ module _ (I : Call) (L : SolveLeft) (s : EntrySays I L) where
   says_by : (r : Solved) → L.answer ≡ r → SaysBy I L r
   says_by r q = subst (SaysBy I L) q s
 
-  -- Demand 3: where it answers a typing, there is one assignment under which the whole list holds together, with the sorts and choices that stand in the words left.
+  -- Demand 3: where it answers a typing, there is one assignment under which the whole list holds together, with the sorts and choices that stand in
+  -- the words left.
   pub entry_holds_together : (o : Outputs) → L.answer ≡ Ok (Typing o)
       → HoldsTogether (graph (lent_of I)) (sort_in (lent_of I)) (tree_at L.sorts o.counts.sorts) o.counts.sorts
       (binds_of I.binds I.lengths.variables) (problem_of I) (sorts_out I L) (choices_out L o)
@@ -166,27 +167,46 @@ module _ (I : Call) (L : SolveLeft) (s : EntrySays I L) where
 
 -- Two outcomes of which it says so.
 module _ (I : Call) where
-  -- what it says of the answer alone, by the checks and the leaves
-  abbrev Tells : Solved → Type 0
-  Tells (Err r) = first_failing (solve_checks I) ≡ Err r
-  Tells (Ok (NoTyping k)) = (first_failing (solve_checks I) ≡ Ok tt) × (leaves_met I ≡ [])
-  Tells (Ok (Ambiguous k)) = (first_failing (solve_checks I) ≡ Ok tt) × ((m : Components) × Least m (leaves_met I) × (1 < times m (leaves_met I)))
-  Tells (Ok (Typing o)) = (first_failing (solve_checks I) ≡ Ok tt) × ((m : Components) × Least m (leaves_met I) × (times m (leaves_met I) ≡ 1))
+  -- what it says of the answer alone, by the checks, the search's end and the leaves
+  abbrev pub Passed : Type 0
+  Passed = first_failing (solve_checks I) ≡ Ok tt
 
-  tells : (L : SolveLeft) → EntrySays I L → (code_left L ≡ 15 → ⊥) → (code_left L ≡ 16 → ⊥) → Tells L.answer
-  unfolding code_solved code_of_refusal
-  tells L s n m = go L.answer refl s
-    where
-      go : (r : Solved) → L.answer ≡ r → SaysBy I L r → Tells r
-      go (Err r) e (inl x) = x.0.first
-      go (Err r) e (inr x) = absurd (room x.room)
-        where
-          room : (r ≡ SortsFull) ⊎ ((r ≡ NodesFull) × (I.rows.constraints ≡ 0 → ⊥)) → ⊥
-          room (inl i) = n (ap code_solved e ∙ ap code_of_refusal i)
-          room (inr j) = m (ap code_solved e ∙ ap code_of_refusal j.0)
-      go (Ok (NoTyping k)) e x = (x.searched.passed, x.no_leaf)
-      go (Ok (Ambiguous k)) e x = (x.searched.passed, x.tied)
-      go (Ok (Typing o)) e x = (x.searched.passed, (measure_out L o, x.least, x.once))
+  abbrev pub Searched : Type 0
+  Searched = Passed × HadRoom (history I)
+
+  abbrev pub Tells : Solved → Type 0
+  Tells (Err r) = (first_failing (solve_checks I) ≡ Err r) ⊎ (Passed × RoomEndedAs r (history I))
+  Tells (Ok (NoTyping k)) = Searched × (leaves_met I ≡ [])
+  Tells (Ok (Ambiguous k)) = Searched × ((m : Components) × Least m (leaves_met I) × (1 < times m (leaves_met I)))
+  Tells (Ok (Typing o)) = Searched × ((m : Components) × Least m (leaves_met I) × (times m (leaves_met I) ≡ 1))
+
+  pub tells_by : (L : SolveLeft) (r : Solved) → SaysBy I L r → Tells r
+  tells_by L (Err r) (inl x) = inl x.0.first
+  tells_by L (Err r) (inr x) = inr (x.passed, x.ended_so)
+  tells_by L (Ok (NoTyping k)) x = ((x.searched.passed, x.searched.had_room), x.no_leaf)
+  tells_by L (Ok (Ambiguous k)) x = ((x.searched.passed, x.searched.had_room), x.tied)
+  tells_by L (Ok (Typing o)) x = ((x.searched.passed, x.searched.had_room), (measure_out L o, x.least, x.once))
+
+  -- room ends in one way, and not where a search had room
+  one_end : (r t : Refusal) (H : Out (List Components)) → RoomEndedAs r H → RoomEndedAs t H → r ≡ t
+  one_end r t (found w) x y = absurd x
+  one_end r t (missed w) x y = absurd x
+  one_end r t (ended c W) x y = x ∙ sym y
+
+  not_both : (r : Refusal) (H : Out (List Components)) → RoomEndedAs r H → HadRoom H → ⊥
+  not_both r (found w) x y = x
+  not_both r (missed w) x y = x
+  not_both r (ended c W) x y = y
+
+  pub one_refusal : (c d : Refusal) → Tells (Err c) → Tells (Err d) → c ≡ d
+  one_refusal c d (inl x) (inl y) = cc
+  one_refusal c d (inl x) (inr y) = let z = y.0 in no_confusion (cc)
+  one_refusal c d (inr x) (inl y) = let z = x.0 in no_confusion (cc)
+  one_refusal c d (inr x) (inr y) = one_end c d (history I) x.1 y.1
+
+  pub refused_or_searched : (c : Refusal) → Tells (Err c) → Searched → ⊥
+  refused_or_searched c (inl x) y = let z = y.0 in no_confusion (cc)
+  refused_or_searched c (inr x) y = not_both c (history I) x.1 y.1
 
   none_least : leaves_met I ≡ [] → (m : Components) → Least m (leaves_met I) → ⊥
   none_least e m l = not_in_nothing m (subst (In m) e l.among)
@@ -194,29 +214,28 @@ module _ (I : Call) where
   often_once : (m n : Components) → Least m (leaves_met I) → 1 < times m (leaves_met I) → Least n (leaves_met I) → times n (leaves_met I) ≡ 1 → ⊥
   often_once m n l a k b = omega (arith, a, b, ap (λ (x : Components). times x (leaves_met I)) (least_is_one m n (leaves_met I) l k))
 
-  one_code : (r t : Solved) → Tells r → Tells t → code_solved r ≡ code_solved t
+  pub one_code : (r t : Solved) → Tells r → Tells t → code_solved r ≡ code_solved t
   unfolding code_solved
-  one_code (Err c) (Err d) x y = let q : c ≡ d = cc in ap code_of_refusal q
-  one_code (Err c) (Ok (NoTyping l)) x y = let z = y.0 in no_confusion (cc)
-  one_code (Err c) (Ok (Ambiguous l)) x y = let z = y.0 in no_confusion (cc)
-  one_code (Err c) (Ok (Typing p)) x y = let z = y.0 in no_confusion (cc)
-  one_code (Ok (NoTyping k)) (Err d) x y = let z = x.0 in no_confusion (cc)
+  one_code (Err c) (Err d) x y = ap code_of_refusal (one_refusal c d x y)
+  one_code (Err c) (Ok (NoTyping l)) x y = absurd (refused_or_searched c x y.0)
+  one_code (Err c) (Ok (Ambiguous l)) x y = absurd (refused_or_searched c x y.0)
+  one_code (Err c) (Ok (Typing p)) x y = absurd (refused_or_searched c x y.0)
+  one_code (Ok (NoTyping k)) (Err d) x y = absurd (refused_or_searched d y x.0)
   one_code (Ok (NoTyping k)) (Ok (NoTyping l)) x y = refl
   one_code (Ok (NoTyping k)) (Ok (Ambiguous l)) x y = absurd (none_least x.1 y.1.0 y.1.1)
   one_code (Ok (NoTyping k)) (Ok (Typing p)) x y = absurd (none_least x.1 y.1.0 y.1.1)
-  one_code (Ok (Ambiguous k)) (Err d) x y = let z = x.0 in no_confusion (cc)
+  one_code (Ok (Ambiguous k)) (Err d) x y = absurd (refused_or_searched d y x.0)
   one_code (Ok (Ambiguous k)) (Ok (NoTyping l)) x y = absurd (none_least y.1 x.1.0 x.1.1)
   one_code (Ok (Ambiguous k)) (Ok (Ambiguous l)) x y = refl
   one_code (Ok (Ambiguous k)) (Ok (Typing p)) x y = absurd (often_once x.1.0 y.1.0 x.1.1 x.1.2 y.1.1 y.1.2)
-  one_code (Ok (Typing o)) (Err d) x y = let z = x.0 in no_confusion (cc)
+  one_code (Ok (Typing o)) (Err d) x y = absurd (refused_or_searched d y x.0)
   one_code (Ok (Typing o)) (Ok (NoTyping l)) x y = absurd (none_least y.1 x.1.0 x.1.1)
   one_code (Ok (Typing o)) (Ok (Ambiguous l)) x y = absurd (often_once y.1.0 x.1.0 y.1.1 y.1.2 x.1.1 x.1.2)
   one_code (Ok (Typing o)) (Ok (Typing p)) x y = refl
 
-  -- a call that has room has one verdict, and a typing one measure
-  pub one_verdict : (L M : SolveLeft) → EntrySays I L → EntrySays I M → (code_left L ≡ 15 → ⊥) → (code_left L ≡ 16 → ⊥)
-      → (code_left M ≡ 15 → ⊥) → (code_left M ≡ 16 → ⊥) → code_left L ≡ code_left M
-  one_verdict L M s t a b c d = one_code L.answer M.answer (tells L s a b) (tells M t c d)
+  -- a call has one verdict, and a typing one measure
+  pub one_verdict : (L M : SolveLeft) → EntrySays I L → EntrySays I M → code_left L ≡ code_left M
+  one_verdict L M s t = one_code L.answer M.answer (tells_by L L.answer s) (tells_by M M.answer t)
 
   pub one_measure : (L M : SolveLeft) (o p : Outputs) → SaysTyping I L o → SaysTyping I M p → measure_out L o ≡ measure_out M p
   one_measure L M o p s t = least_is_one (measure_out L o) (measure_out M p) (leaves_met I) s.least t.least

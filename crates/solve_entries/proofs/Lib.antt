@@ -2,3 +2,4 @@
 pub mod Laws
 pub mod EntrySays
 pub mod EntryTyping
+pub mod Exactly

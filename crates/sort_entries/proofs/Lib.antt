@@ -4,3 +4,4 @@ pub mod Codes
 pub mod Answered
 pub mod Packed
 pub mod Fields
+pub mod Clauses

@@ -8,14 +8,20 @@ use Rattle.resolved_sort.specs.declared.Counts.{Counts}
 use Rattle.resolved_sort.specs.declared.SortId.{SortId}
 use Rattle.resolved_sort.specs.Tree.{Tree}
 use Rattle.resolved_sort.specs.Order.{bound}
+use Rattle.resolved_sort.specs.Interning.{Sorts, Outcome, made, nothing, full, make}
+use Rattle.resolved_sort.specs.Storage.{sorts_of}
 use Rattle.resolved_sort.specs.Checks.{first_failing, pair_checks}
 use Rattle.resolved_sort.specs.Entries.{tree_at, Bounded}
-use Rattle.entry_answers.specs.SortsLeft.{SortsGrew, SortsPutBack, RanOut}
+use Rattle.entry_answers.specs.SortsLeft.{SortsGrew, LeftBy, SortsPutBack, RanOut}
 
 module _ (up : Bool) (ws : List ℕ) (n e a b : ℕ) where
   -- the join or meet, as trees, of what the two numbers stand for
   abbrev pub bound_asked : Option Tree
   bound_asked = bound up (tree_at ws n a) (tree_at ws n b)
+
+  -- what making it in the given list comes to
+  abbrev pub made_asked : Outcome Tree
+  made_asked = make up (tree_at ws n a) (tree_at ws n b) (sorts_of ws n e)
 
   -- A refusal by a check: the first that fails, and the words as given.
   pub record BoundRefused (vs : List ℕ) (c : Refusal) : Type 0 where
@@ -28,6 +34,9 @@ module _ (up : Bool) (ws : List ℕ) (n e a b : ℕ) where
     pub listed : s.0 < k.sorts
     pub is : bound_asked ≡ some (tree_at vs k.sorts s.0)
     pub grew : SortsGrew ws n e vs k
+    pub sorts : Sorts
+    pub made_so : made_asked ≡ made (tree_at vs k.sorts s.0) sorts
+    pub left : LeftBy ws n e vs k sorts
 
   -- None: there is no join or meet. "Join and meet keep the sorts the Rust's would make, also where the answer is
   -- none."
@@ -35,11 +44,15 @@ module _ (up : Bool) (ws : List ℕ) (n e a b : ℕ) where
     pub passed : first_failing (pair_checks ws n e a b) ≡ Ok tt
     pub is : bound_asked ≡ none
     pub grew : SortsGrew ws n e vs k
+    pub sorts : Sorts
+    pub made_so : made_asked ≡ nothing sorts
+    pub left : LeftBy ws n e vs k sorts
 
   -- No room: some new sort did not fit, and what was made is given back.
   pub record BoundNoRoom (vs : List ℕ) : Type 0 where
     pub passed : first_failing (pair_checks ws n e a b) ≡ Ok tt
     pub ran_out : RanOut ws n e
+    pub made_so : made_asked ≡ full ran_out.so_far
     pub put_back : SortsPutBack ws n e vs
 
   abbrev pub BoundSays : List ℕ → Bounded → Type 0

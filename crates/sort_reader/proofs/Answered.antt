@@ -1,28 +1,33 @@
 -- What the entry read answers and leaves, whatever it is given: a refusal names the first failing check and leaves the words; so does 20, with the
 -- unread end; a sort's number stands for the line's sort in the words left; room ended at a sort that did not fit. By what storing answers
 -- (`store_stores`), keeps (`store_kept`) and ends at. Assumes nothing.
-use mathlib.Core.Path.{◌≡◌, refl, sym, ◌∙◌, ap, subst}
+use mathlib.Core.Path.{◌≡◌, refl, sym, ◌∙◌, ap, ap₂, subst}
+use mathlib.Core.Logic.{◌↔◌}
 use mathlib.Core.List.{List, []}
-use Prim.Native.Nat.{ℕ}
+use Prim.Native.Nat.{ℕ, ◌-◌}
 use native.Mathlib.Omega.{arith}
 use Rattle.std.specs.Prelude.{Ok, Err}
 use Rattle.resolved_sort.specs.Tree.{Tree, flat, container, function, Trees, no_args, arg}
 use Rattle.resolved_sort.specs.Interning.{Sorts, look, number, Outcome, made, nothing, full}
-use Rattle.resolved_sort.specs.Storage.{sorts_of}
+use Rattle.resolved_sort.specs.Storage.{sorts_of, trees, given_back}
 use Rattle.resolved_sort.specs.Checks.{first_failing, Tested}
-use Rattle.resolved_sort.specs.Entries.{refused_or, stored}
+use lib.ListN.{length, drop, length-drop}
+use Rattle.resolved_sort.specs.declared.Counts.{Counts}
+use Rattle.resolved_sort.specs.declared.Refusal.{Refusal}
+use Rattle.resolved_sort.specs.declared.SortId.{SortId}
+use Rattle.resolved_sort.specs.Entries.{refused_or, tree_at, counts_of, after, stored}
 use Rattle.resolved_sort.specs.Growing.{SortsKept, InTree}
 use Rattle.resolved_sort.proofs.Numbers.{look_number, number_below}
-use Rattle.entry_answers.proofs.SortsLeft.{grew, put_back}
+use Rattle.entry_answers.proofs.SortsLeft.{own_number, grew, put_back, put_back_once}
 use Rattle.entry_answers.proofs.RanOut.{Ends, ends_then, made_ends, intern_ends, ran_out}
-use Rattle.sort_text.specs.declared.Unread.TheVariants.{Refused}
+use Rattle.sort_text.specs.declared.Unread.TheVariants.{Refused, NotASort, NoRoom}
 use Rattle.sort_text.specs.Parse.{Parsed, parsed, stuck, line}
 use Rattle.sort_text.specs.Reading.{store, stores, read_checks, ReadAnswer, ReadLeft, read_left, stored_by, read_as_of, reading}
 use Rattle.sort_text.proofs.Stores.{Stores, store_stores}
 use Rattle.sort_text.proofs.Suffix.{unread_end}
 use Rattle.sort_text.proofs.WhatIsRead.{line_read_whole}
 use Rattle.sort_reader.specs.Inner.Tested.{Passes}
-use Rattle.sort_reader.specs.Answered.{ReadSays}
+use Rattle.sort_reader.specs.Answered.{ReadRefused, ReadStuck, ReadSort, ReadNoRoom, ReadSays}
 use Rattle.sort_reader.proofs.Entry.{passes, primitives_in, store_kept}
 
 mutual
@@ -49,30 +54,38 @@ module _ (ws : List ℕ) (n e : ℕ) (bs : List ℕ) where
     passed : Passes ws n e bs
     passed = passes ws n e bs (Ok tt) (sym f) refl
 
-    by_outcome : (t : Tree) → line bs ≡ parsed t [] → (O : Outcome Tree) → SortsKept ws n e InTree (sorts_of ws n e) O
+    by_outcome : (t : Tree) → line bs ≡ parsed t [] → (O : Outcome Tree) → store t (sorts_of ws n e) ≡ O → SortsKept ws n e InTree (sorts_of ws n e) O
         → Stores t O → Ends O → says (stored_by ws n e (stored ws n e O) (stored ws n e O).answer)
-    unfolding SortsKept stored stored_by Stores
-    by_outcome t l (made u S) h x y =
+    unfolding SortsKept stored stored_by Stores ran_out
+    by_outcome t l (made u S) m h x y =
+        let stands : look (trees (after ws n e S) (length S.trees)) (number S.trees u) ≡ t =
+        ap (λ T. look T (number S.trees u)) h.0.reads ∙ (look_number S.trees u h.2 ∙ x.0) in
         record {
           passed = f;
           listed = number_below S.trees u h.2;
-          is = l ∙ ap (λ s. parsed s []) (sym (ap (λ T. look T (number S.trees u)) h.0.reads ∙ (look_number S.trees u h.2 ∙ x.0)));
+          is = l ∙ ap (λ s. parsed s []) (sym stands);
           grew = grew ws n e passed.checked passed.six S h.0;
+          sorts = S;
+          stored_so =
+              ap (λ s. store s (sorts_of ws n e)) stands
+              ∙ (m ∙ ap (λ s. made s S) (x.0 ∙ sym stands));
+          left = record { words = refl; counts = refl };
         }
-    by_outcome t l (nothing S) h x y = absurd x
-    by_outcome t l (full S) h x y =
+    by_outcome t l (nothing S) m h x y = absurd x
+    by_outcome t l (full S) m h x y =
         record {
           passed = f;
           sort = t;
           is = l;
           ran_out = ran_out ws n e Tree S h.0 y;
+          stored_so = m;
           put_back = put_back ws n e passed.checked passed.six;
         }
 
     by_line : (P : Parsed) → line bs ≡ P → says (read_as_of ws n e bs P)
     unfolding read_as_of
     by_line (parsed t cs) l =
-        by_outcome t (l ∙ ap (parsed t) (line_read_whole bs cs t l)) (store t (sorts_of ws n e)) (store_kept ws n e bs passed cs t l)
+        by_outcome t (l ∙ ap (parsed t) (line_read_whole bs cs t l)) (store t (sorts_of ws n e)) refl (store_kept ws n e bs passed cs t l)
         (store_stores t (sorts_of ws n e) (primitives_in ws n e bs passed)) (store_ends t (sorts_of ws n e))
     by_line (stuck cs) l =
         record { passed = f; inside = omega arith; is = l ∙ ap stuck (sym (unread_end bs cs l)); given = refl }
@@ -86,3 +99,55 @@ module _ (ws : List ℕ) (n e : ℕ) (bs : List ℕ) where
           → read_left vs r ≡ refused_or o (λ c. read_left ws (Err (Refused c))) (read_as_of ws n e bs (line bs)) → ReadSays ws n e bs vs r
       go (Ok u) f w = subst says (sym w) (by_line f (line bs) refl)
       go (Err c) f w = subst says (sym w) (record { first = f; given = refl })
+
+  -- And the other way: what says so is the defined outcome. So no clause of it says less than the entry does.
+  module _ (f : first_failing (read_checks ws n e bs) ≡ Ok tt) where
+    by_reading : (P : Parsed) → line bs ≡ P → read_as_of ws n e bs P ≡ reading ws n e bs
+    unfolding reading
+    by_reading P l = sym (rw f (ap (read_as_of ws n e bs) l))
+
+    by_stored : (t : Tree) → line bs ≡ parsed t [] → (O : Outcome Tree) → store t (sorts_of ws n e) ≡ O
+        → stored_by ws n e (stored ws n e O) (stored ws n e O).answer ≡ reading ws n e bs
+    unfolding read_as_of
+    by_stored t l O m = sym (ap (λ P. stored_by ws n e (stored ws n e P) (stored ws n e P).answer) m) ∙ by_reading (parsed t []) l
+
+    sort_left : (vs : List ℕ) (s : SortId) (k : Counts) → ReadSort ws n e bs vs s k → read_left vs (Ok (s, k)) ≡ reading ws n e bs
+    unfolding SortsKept stored stored_by
+    sort_left vs s k x =
+        let t : Tree = tree_at vs k.sorts s.0 in
+        let S = x.sorts in
+        let kept : SortsKept ws n e InTree (sorts_of ws n e) (made t S) =
+        subst (SortsKept ws n e InTree (sorts_of ws n e)) x.stored_so (store_kept ws n e bs (passed f) [] t x.is) in
+        let same : t ≡ tree_at (after ws n e S) (length S.trees) s.0 =
+        ap₂ (λ us m. tree_at us m s.0) x.left.words (ap (λ (c : Counts). c.sorts) x.left.counts) in
+        let number_is : number S.trees t ≡ s.0 =
+        ap (number S.trees) same ∙ own_number ws n e S kept.0 s.0 (omega (arith, x.listed, ap (λ (c : Counts). c.sorts) x.left.counts)) in
+        ap₂ (λ us c. read_left us (Ok (s, c))) x.left.words x.left.counts
+        ∙ (ap (λ i. read_left (after ws n e S) (Ok (record { 0 = i }, counts_of S))) (sym number_is) ∙ by_stored t x.is (made t S) x.stored_so)
+
+    no_room_left : (vs : List ℕ) → ReadNoRoom ws n e bs vs → read_left vs (Err NoRoom) ≡ reading ws n e bs
+    unfolding stored stored_by
+    no_room_left vs x =
+        ap (λ us. read_left us (Err NoRoom))
+        (put_back_once ws n e vs (given_back n e ws) x.put_back (put_back ws n e (passed f).checked (passed f).six))
+        ∙ by_stored x.sort x.is (full x.ran_out.so_far) x.stored_so
+
+    stuck_left : (vs : List ℕ) (at : ℕ) → ReadStuck ws n e bs vs at → read_left vs (Err (NotASort at)) ≡ reading ws n e bs
+    unfolding read_as_of
+    stuck_left vs at x =
+        ap₂ (λ us p. read_left us (Err (NotASort p))) x.given
+        (let d : length (drop at bs) ≡ length bs - at = length-drop at bs in let z : at ≡ length bs - length (drop at bs) = omega (arith, d, x.inside) in z)
+        ∙ by_reading (stuck (drop at bs)) x.is
+
+  refused_left : (vs : List ℕ) (c : Refusal) → ReadRefused ws n e bs vs c → read_left vs (Err (Refused c)) ≡ reading ws n e bs
+  unfolding reading
+  refused_left vs c x = sym (rw x.first (ap (λ us. read_left us (Err (Refused c))) (sym x.given)))
+
+  says_all : (vs : List ℕ) (r : ReadAnswer) → ReadSays ws n e bs vs r → read_left vs r ≡ reading ws n e bs
+  says_all vs (Ok (s, k)) x = sort_left x.passed vs s k x
+  says_all vs (Err (Refused c)) x = refused_left vs c x
+  says_all vs (Err (NotASort at)) x = stuck_left x.passed vs at x
+  says_all vs (Err NoRoom) x = no_room_left x.passed vs x
+
+  pub read_says_exactly : (vs : List ℕ) (r : ReadAnswer) → ReadSays ws n e bs vs r ↔ (read_left vs r ≡ reading ws n e bs)
+  read_says_exactly vs r = (says_all vs r, entry_is_line vs r)

@@ -3,4 +3,5 @@ mod Ways
 pub mod Entry
 pub mod Codes
 pub mod Answered
+pub mod Clauses
 mod Steps

@@ -4,12 +4,14 @@ use Rattle.std.specs.Prelude.{◌≡◌, List, [], ℕ, ◌<◌, ◌≤◌, leng
 use Rattle.resolved_sort.specs.declared.Counts.{Counts}
 use Rattle.resolved_sort.specs.declared.SortId.{SortId}
 use Rattle.resolved_sort.specs.Tree.{Tree}
+use Rattle.resolved_sort.specs.Interning.{Sorts, made, full}
+use Rattle.resolved_sort.specs.Storage.{sorts_of}
 use Rattle.resolved_sort.specs.Checks.{first_failing}
 use Rattle.resolved_sort.specs.Entries.{tree_at}
-use Rattle.entry_answers.specs.SortsLeft.{SortsGrew, SortsPutBack, RanOut}
+use Rattle.entry_answers.specs.SortsLeft.{SortsGrew, LeftBy, SortsPutBack, RanOut}
 use Rattle.sort_text.specs.declared.Unread.TheVariants.{Refused, NotASort, NoRoom}
 use Rattle.sort_text.specs.Parse.{parsed, stuck, line}
-use Rattle.sort_text.specs.Reading.{read_checks, ReadAnswer}
+use Rattle.sort_text.specs.Reading.{read_checks, store, ReadAnswer}
 
 module _ (ws : List ℕ) (n e : ℕ) (bs : List ℕ) where
   -- A refusal: the first failing check, and the words as given.
@@ -30,6 +32,9 @@ module _ (ws : List ℕ) (n e : ℕ) (bs : List ℕ) where
     pub listed : s.0 < k.sorts
     pub is : line bs ≡ parsed (tree_at vs k.sorts s.0) []
     pub grew : SortsGrew ws n e vs k
+    pub sorts : Sorts
+    pub stored_so : store (tree_at vs k.sorts s.0) (sorts_of ws n e) ≡ made (tree_at vs k.sorts s.0) sorts
+    pub left : LeftBy ws n e vs k sorts
 
   -- No room: the line is a sort, some new sort did not fit, and what was stored is given back.
   pub record ReadNoRoom (vs : List ℕ) : Type 0 where
@@ -37,6 +42,7 @@ module _ (ws : List ℕ) (n e : ℕ) (bs : List ℕ) where
     pub sort : Tree
     pub is : line bs ≡ parsed sort []
     pub ran_out : RanOut ws n e
+    pub stored_so : store sort (sorts_of ws n e) ≡ full ran_out.so_far
     pub put_back : SortsPutBack ws n e vs
 
   abbrev pub ReadSays : List ℕ → ReadAnswer → Type 0

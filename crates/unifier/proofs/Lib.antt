@@ -4,3 +4,4 @@ pub mod Tries
 pub mod Steps
 pub mod TrailVariables
 pub mod Bound
+pub mod Clauses

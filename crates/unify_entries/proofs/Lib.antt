@@ -3,3 +3,4 @@ pub mod Laws
 pub mod EntryRobinson
 pub mod Codes
 pub mod CodeSeven
+pub mod Clauses
