@@ -3,5 +3,7 @@ pub mod Taking
 pub mod Exactly
 pub mod Examples
 pub mod Ways
+pub mod Given
 pub mod Streams
+pub mod Rests
 pub mod Reading

@@ -15,6 +15,7 @@ use Rattle.line_input.specs.Found.{Input}
 use Rattle.line_input.specs.Found.{LineFound}
 use Rattle.line_input.specs.Found.{Nothing, Line, End, Failed}
 use Rattle.line_input.specs.declared.Lines.{Lines}
+use Rattle.line_input.specs.Reads.{Shows}
 use Rattle.line_input.specs.Lines.{LineRead, AnswersFound, seen}
 use Rattle.line_input.specs.Taking.{Came, line_ends, going, take_line, Reached, reached, goes_on, some_line, no_line, following_by, following_of, next_line, held_lines}
 use Rattle.line_input.specs.Answers.{unread, SaysLine, EndsInput, NextLineFrom}
@@ -142,13 +143,15 @@ found_end Failed n r a e = absurd (let z = subst IsErr e a in cc z)
 found_end Nothing n r a e = absurd (subst (λ x. IsErrAnd x (λ k. error_kind k ≡ TimedOut)) e a)
 
 -- a line is held in its memory
-pub line_held : (known known' : Option (List ℕ)) (before after : Lines) (r : Result (Option ℕ) Error) → LineRead known known' before after r
+pub line_held : {R : Type 0} {shows : Shows R} {reader reader' : R} (known known' : Option (List ℕ)) (before after : Lines)
+    (r : Result (Option ℕ) Error) → LineRead shows reader reader' known known' before after r
     → (n : ℕ) → r ≡ Ok (Some n) → n ≤ length before.line.bytes.now
 line_held known known' before after r l n e =
     let f = (found_line l.found after.line.at n r l.answer e).1 in
     omega (arith, f, l.next.next.few)
 
-module _ (known known' : Option (List ℕ)) (before after : Lines) (r : Result (Option ℕ) Error) (l : LineRead known known' before after r)
+module _ {R : Type 0} {shows : Shows R} {reader reader' : R} (known known' : Option (List ℕ)) (before after : Lines)
+    (r : Result (Option ℕ) Error) (l : LineRead shows reader reader' known known' before after r)
     (room : 0 < length before.buffer.now) (some : 0 < length before.line.bytes.now)
     (all : List ℕ) (taken : List (List ℕ))
     (s : LinesLeft (length before.line.bytes.now) all (unread before.buffer.now (seen before Nothing)) known taken) where

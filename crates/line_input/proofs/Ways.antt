@@ -1,7 +1,7 @@
 -- What each function of the crate leaves, from what its callees leave: what is left of the bytes comes to what the whole comes
 -- to, and a read is one part more. Assumes nothing.
 use mathlib.Core.Path.{◌≡◌, refl, sym, ◌∙◌, ap, ap₂, subst}
-use mathlib.Core.List.{List, [], ◌∷◌, ◌++◌, append_assoc, append-nil}
+use mathlib.Core.List.{List, [], ◌∷◌, ◌++◌}
 use Prim.Native.Nat.{ℕ, zero, suc, ◌+◌, ◌-◌, ◌<◌, ◌≤◌}
 use native.Mathlib.Omega.{arith}
 use native.Mathlib.Numerals.{add-one}
@@ -9,17 +9,14 @@ use native.Mathlib.Nat.{zero-add}
 use lib.ListN.{length, take, drop, get_or, length-append, length-take, length-drop, drop_of_length-le}
 use lib.Seq.{slice, drop-cons, drop-drop, get_or-take, length-take-le}
 use borrow.Author.Tests.{eq-eqb, ne_eqb}
-use Rattle.std.specs.Prelude.{Option, Some, None}
-use Rattle.std.specs.Io.KnownBytes.{Keeps, Consumes, IsAtEnd}
-use Rattle.held_line.specs.Lines.{whole}
 use Rattle.held_line.specs.Holding.{holding, line_kept, held_at}
 use Rattle.held_line.proofs.Held.{byte_held}
 use Rattle.line_input.specs.Found.{Input}
 use Rattle.line_input.specs.Found.{LineFound}
 use Rattle.line_input.specs.Found.{Nothing, Line, End, Failed}
 use Rattle.line_input.specs.Taking.{Came, line_ends, going, take_line, Reached, reached, goes_on, some_line, following_by, following_of}
-use Rattle.line_input.specs.Answers.{unread, SaysLine, most_reads, EndsInput, NextLineFrom}
-use Rattle.line_input.specs.Inner.Answers.{held_of, input_of, Takes, end_of, Got, failed, at_its_end, bytes, AfterRead, GivenBy, ReadSomeFrom}
+use Rattle.line_input.specs.Answers.{unread, SaysLine, most_reads, EndsInput, NextLine}
+use Rattle.line_input.specs.Inner.Answers.{held_of, input_of, Takes, end_of, Got, failed, at_its_end, bytes, AfterRead}
 use Rattle.line_input.proofs.Taking.{taken_lf, taken_byte, taken_none, grows, left_is_last, goes_further}
 
 abbrev input : ℕ → ℕ → ℕ → LineFound → Input
@@ -174,30 +171,9 @@ module _ (buffer line : List ℕ) (from end before : ℕ) (left : List ℕ) (r :
   takes_no_end e =
       end_by (length (slice from end buffer)) taken (subst (λ (x : Input). EndsInput x.found taken) t.answer e)
 
--- the bytes that a reader has given
-nothing_given : (a : Option (List ℕ)) → Consumes a a []
-nothing_given None = tt
-nothing_given (Some xs) = refl
-
-given_more : (a b c : Option (List ℕ)) (bs cs : List ℕ) → Consumes a b bs → Consumes b c cs → Consumes a c (bs ++ cs)
-given_more None b c bs cs p q = tt
-given_more (Some xs) None c bs cs p q = absurd p
-given_more (Some xs) (Some ys) None bs cs p q = absurd q
-given_more (Some xs) (Some ys) (Some zs) bs cs p q = p ∙ (ap (λ l. bs ++ l) q ∙ sym (append_assoc bs cs zs))
-
-given_still : (a b c : Option (List ℕ)) (bs : List ℕ) → Consumes a b bs → Keeps b c → Consumes a c bs
-given_still None b c bs p q = tt
-given_still (Some xs) None c bs p q = absurd p
-given_still (Some xs) (Some ys) None bs p q = absurd q
-given_still (Some xs) (Some ys) (Some zs) bs p q = p ∙ ap (λ l. bs ++ l) (sym q)
-
-whole_more : (ps : List (List ℕ)) (p : List ℕ) → whole (ps ++ (p ∷ [])) ≡ whole ps ++ p
-whole_more [] p = append-nil p
-whole_more (q ∷ ps) p = ap (λ l. q ++ l) (whole_more ps p) ∙ sym (append_assoc q (whole ps) p)
-
--- reading on: one part more each time. The bytes c₀ came before the first read.
+-- reading on: one part more each time. What is said of the parts is a parameter.
 pub record ReadOn (buffer₀ line₀ : List ℕ) (current₀ : Input) (buffer line : List ℕ) (current : Input) (turns : ℕ)
-    (c₀ : Came) (known₀ known : Option (List ℕ)) : Type 0 where
+    (Given : List (List ℕ) → Type 0) : Type 0 where
   pub parts : List (List ℕ)
   pub says : (c : Came) → SaysLine current₀.found (reached c []) (take current₀.length line₀) (unread buffer₀ current₀)
       → SaysLine current.found (goes_on (length line₀) parts c) (take current.length line) (unread buffer current)
@@ -207,13 +183,12 @@ pub record ReadOn (buffer₀ line₀ : List ℕ) (current₀ : Input) (buffer li
   pub line_long : length line ≡ length line₀
   pub buffer_long : length buffer ≡ length buffer₀
   pub reads : current.found ≡ Nothing → length parts + turns ≡ most_reads
-  pub given : Consumes known₀ known (whole parts)
-  pub ended : EndsInput current.found (goes_on (length line₀) parts c₀).came → 0 < length buffer₀ → IsAtEnd known
+  pub given : Given parts
 
-pub nothing_read : (buffer line : List ℕ) (current : Input) (c₀ : Came) (known : Option (List ℕ)) → current.length ≤ length line
-    → (EndsInput current.found c₀ → ⊥) → ReadOn buffer line current buffer line current most_reads c₀ known known
+pub nothing_read : (buffer line : List ℕ) (current : Input) (Given : List (List ℕ) → Type 0) → current.length ≤ length line
+    → Given [] → ReadOn buffer line current buffer line current most_reads Given
 unfolding goes_on
-nothing_read buffer line current c₀ known f n =
+nothing_read buffer line current Given f h =
     record {
       parts = [];
       says = λ c s. s;
@@ -223,9 +198,22 @@ nothing_read buffer line current c₀ known f n =
       line_long = refl;
       buffer_long = refl;
       reads = λ e. omega arith;
-      given = nothing_given known;
-      ended = λ e p. absurd (n e);
+      given = h;
     }
+
+-- What is said of the parts after a read, from what was said before it: they are the same after one that fails, or that gives nothing,
+-- where they have come to no line; and else there is one more, at which the input does not end.
+unfoldable pub GivenOn : Got → (Given Given' : List (List ℕ) → Type 0) → (came : List (List ℕ) → Came) → LineFound → (buffer : List ℕ) → Type 0
+GivenOn failed Given Given' came f buffer = (ps : List (List ℕ)) → Given ps → Given' ps
+GivenOn at_its_end Given Given' came f buffer = (ps : List (List ℕ)) → Given ps → (l : List ℕ) → came ps ≡ going l → Given' ps
+GivenOn (bytes n) Given Given' came f buffer =
+    (ps : List (List ℕ)) → Given ps → (EndsInput f (came (ps ++ (take n buffer ∷ []))) → ⊥) → Given' (ps ++ (take n buffer ∷ []))
+
+pub record ReadSome (Given Given' : List (List ℕ) → Type 0) (came : List (List ℕ) → Came) (buffer line : List ℕ) (count : ℕ)
+    (left : List ℕ) (r : Input) : Type 0 where
+  pub got : Got
+  pub after : AfterRead got buffer line count left r
+  pub given : GivenOn got Given Given' came r.found buffer
 
 pub failed_is_something : Failed ≡ Nothing → ⊥
 failed_is_something e = let z : ◌≡◌ {A = ℕ} 0 1 = cc e in omega arith
@@ -237,9 +225,8 @@ pub line_is_something : Line ≡ Nothing → ⊥
 line_is_something e = let z : ◌≡◌ {A = ℕ} 0 1 = cc e in omega arith
 
 module _ (buffer₀ line₀ : List ℕ) (current₀ : Input) (buffer line : List ℕ) (current : Input) (turns : ℕ)
-    (c₀ : Came) (known₀ known : Option (List ℕ))
-    (g : ReadOn buffer₀ line₀ current₀ buffer line current turns c₀ known₀ known) (f : current.found ≡ Nothing)
-    (buffer' : List ℕ) (k : length buffer' ≡ length buffer) (known' : Option (List ℕ)) where
+    (Given : List (List ℕ) → Type 0) (g : ReadOn buffer₀ line₀ current₀ buffer line current turns Given) (f : current.found ≡ Nothing)
+    (buffer' : List ℕ) (k : length buffer' ≡ length buffer) (Given' : List (List ℕ) → Type 0) where
   -- no line so far
   so_far : (c : Came) → SaysLine current₀.found (reached c []) (take current₀.length line₀) (unread buffer₀ current₀)
       → goes_on (length line₀) g.parts c ≡ reached (going (take current.length line)) []
@@ -247,8 +234,8 @@ module _ (buffer₀ line₀ : List ℕ) (current₀ : Input) (buffer line : List
   so_far c s = (subst (λ x. SaysLine x (goes_on (length line₀) g.parts c) (take current.length line) (unread buffer current)) f (g.says c s)).0
 
   -- a read that fails
-  read_fails : Keeps known known' → ReadOn buffer₀ line₀ current₀ buffer' line (input 0 0 current.length Failed) (turns - 1) c₀ known₀ known'
-  unfolding SaysLine EndsInput
+  read_fails : Given' g.parts → ReadOn buffer₀ line₀ current₀ buffer' line (input 0 0 current.length Failed) (turns - 1) Given'
+  unfolding SaysLine
   read_fails h =
       record {
         parts = g.parts;
@@ -259,8 +246,7 @@ module _ (buffer₀ line₀ : List ℕ) (current₀ : Input) (buffer line : List
         line_long = g.line_long;
         buffer_long = k ∙ g.buffer_long;
         reads = λ e. absurd (failed_is_something e);
-        given = given_still known₀ known known' (whole g.parts) g.given h;
-        ended = λ e p. absurd e;
+        given = h;
       }
 
   -- the end of the input
@@ -269,16 +255,8 @@ module _ (buffer₀ line₀ : List ℕ) (current₀ : Input) (buffer line : List
   some_held n [] e = absurd (omega (arith, e))
   some_held n (b ∷ l) e = refl
 
-  module _ (at_end : Consumes known known' [] × (0 < length buffer' → IsAtEnd known')) where
-    still_given : Consumes known₀ known' (whole g.parts)
-    still_given =
-        subst (Consumes known₀ known') (append-nil (whole g.parts))
-        (given_more known₀ known known' (whole g.parts) [] g.given at_end.0)
-
-    none_left : 0 < length buffer₀ → IsAtEnd known'
-    none_left p = at_end.1 (omega (arith, p, k, g.buffer_long))
-
-    ends_by : (n : ℕ) → current.length ≡ n → ReadOn buffer₀ line₀ current₀ buffer' line (end_of n) (turns - 1) c₀ known₀ known'
+  module _ (h : Given' g.parts) where
+    ends_by : (n : ℕ) → current.length ≡ n → ReadOn buffer₀ line₀ current₀ buffer' line (end_of n) (turns - 1) Given'
     unfolding SaysLine end_of following_by
     ends_by zero e =
         record {
@@ -290,8 +268,7 @@ module _ (buffer₀ line₀ : List ℕ) (current₀ : Input) (buffer line : List
           line_long = g.line_long;
           buffer_long = k ∙ g.buffer_long;
           reads = λ x. absurd (end_is_something x);
-          given = still_given;
-          ended = λ x p. none_left p;
+          given = h;
         }
     ends_by (suc n) e =
         record {
@@ -304,11 +281,11 @@ module _ (buffer₀ line₀ : List ℕ) (current₀ : Input) (buffer line : List
           line_long = g.line_long;
           buffer_long = k ∙ g.buffer_long;
           reads = λ x. absurd (line_is_something x);
-          given = still_given;
-          ended = λ x p. none_left p;
+          given = h;
         }
 
-  module _ (s₀ : SaysLine current₀.found (reached c₀ []) (take current₀.length line₀) (unread buffer₀ current₀))
+  module _ (c₀ : Came) (most : ℕ) (m : length line₀ ≡ most)
+      (s₀ : SaysLine current₀.found (reached c₀ []) (take current₀.length line₀) (unread buffer₀ current₀))
       (positive : 0 < turns) (line' : List ℕ) (long : length line' ≡ length line) (r : Input) where
     -- bytes
     one_part_more : (part : List ℕ) (c : Came)
@@ -319,8 +296,16 @@ module _ (buffer₀ line₀ : List ℕ) (current₀ : Input) (buffer line : List
         goes_further (length line₀) g.parts (part ∷ []) c (take current.length line) (so_far c s)
         ∙ ap (λ (m : ℕ). reached (take_line m (take current.length line) part) []) (sym g.line_long)
 
-    bytes_read : (n : ℕ) → Takes buffer' line 0 n current.length line' r → Consumes known known' (take n buffer')
-        → ReadOn buffer₀ line₀ current₀ buffer' line' r (turns - 1) c₀ known₀ known'
+    -- what the first bytes and then parts come to
+    abbrev pub came : List (List ℕ) → Came
+    came ps = (goes_on most ps c₀).came
+
+    no_line_came : came g.parts ≡ going (take current.length line)
+    no_line_came = ap (λ (n : ℕ). (goes_on n g.parts c₀).came) (sym m) ∙ ap (λ (x : Reached). x.came) (so_far c₀ s₀)
+
+    bytes_read : (n : ℕ) → Takes buffer' line 0 n current.length line' r
+        → ((EndsInput r.found (came (g.parts ++ (take n buffer' ∷ []))) → ⊥) → Given' (g.parts ++ (take n buffer' ∷ [])))
+        → ReadOn buffer₀ line₀ current₀ buffer' line' r (turns - 1) Given'
     bytes_read n t h =
         let inside : current.length ≤ length line = omega (arith, g.few, g.line_long) in
         let part = slice 0 n buffer' in
@@ -336,29 +321,32 @@ module _ (buffer₀ line₀ : List ℕ) (current₀ : Input) (buffer line : List
           line_long = long ∙ g.line_long;
           buffer_long = k ∙ g.buffer_long;
           reads = λ e. omega (arith, length-append g.parts (part ∷ []), g.reads f, positive);
-          given = subst (Consumes known₀ known') (sym (whole_more g.parts part))
-              (given_more known₀ known known' (whole g.parts) part g.given h);
-          ended = λ e p. absurd (takes_no_end buffer' line 0 n current.length line' r t
-              (subst (λ (x : Reached). EndsInput r.found x.came) (one_part_more part c₀ s₀) e));
+          given = h (λ e. takes_no_end buffer' line 0 n current.length line' r t
+              (subst (λ (x : Reached). EndsInput r.found x.came) (one_part_more part c₀ s₀)
+              (subst (λ (n : ℕ). EndsInput r.found (goes_on n (g.parts ++ (part ∷ [])) c₀).came) (sym m) e)));
         }
 
-    read_by : (x : Got) → AfterRead x buffer' line current.length line' r → GivenBy x known known' buffer'
-        → ReadOn buffer₀ line₀ current₀ buffer' line' r (turns - 1) c₀ known₀ known'
-    unfolding AfterRead GivenBy
+    read_by : (x : Got) → AfterRead x buffer' line current.length line' r → GivenOn x Given Given' came r.found buffer'
+        → ReadOn buffer₀ line₀ current₀ buffer' line' r (turns - 1) Given'
+    unfolding AfterRead GivenOn
     read_by failed a h =
-        subst (λ l. ReadOn buffer₀ line₀ current₀ buffer' l r (turns - 1) c₀ known₀ known') (sym a.1)
-        (subst (λ (x : Input). ReadOn buffer₀ line₀ current₀ buffer' line x (turns - 1) c₀ known₀ known') (sym a.0) (read_fails h))
+        subst (λ l. ReadOn buffer₀ line₀ current₀ buffer' l r (turns - 1) Given') (sym a.1)
+        (subst (λ (x : Input). ReadOn buffer₀ line₀ current₀ buffer' line x (turns - 1) Given') (sym a.0) (read_fails (h g.parts g.given)))
     read_by at_its_end a h =
-        subst (λ l. ReadOn buffer₀ line₀ current₀ buffer' l r (turns - 1) c₀ known₀ known') (sym a.1)
-        (subst (λ (x : Input). ReadOn buffer₀ line₀ current₀ buffer' line x (turns - 1) c₀ known₀ known') (sym a.0)
-        (ends_by h current.length refl))
-    read_by (bytes n) a h = bytes_read n a.1 h
+        subst (λ l. ReadOn buffer₀ line₀ current₀ buffer' l r (turns - 1) Given') (sym a.1)
+        (subst (λ (x : Input). ReadOn buffer₀ line₀ current₀ buffer' line x (turns - 1) Given') (sym a.0)
+        (ends_by (h g.parts g.given (take current.length line) no_line_came) current.length refl))
+    read_by (bytes n) a h = bytes_read n a.1 (h g.parts g.given)
 
-    pub read_once : ReadSomeFrom known known' buffer' line current.length line' r
-        → ReadOn buffer₀ line₀ current₀ buffer' line' r (turns - 1) c₀ known₀ known'
-    read_once s = read_by s.some.got s.some.after s.given
+    pub read_once : ReadSome Given Given' came buffer' line current.length line' r
+        → ReadOn buffer₀ line₀ current₀ buffer' line' r (turns - 1) Given'
+    read_once s = read_by s.got s.after s.given
 
--- what `next_line` answers
+-- what `next_line` answers, and what is said of its parts
+pub record Next (buffer line : List ℕ) (i : Input) (buffer' line' : List ℕ) (r : Input) (Given : List (List ℕ) → Type 0) : Type 0 where
+  pub next : NextLine buffer line i buffer' line' r
+  pub given : Given next.parts
+
 module _ (buffer line : List ℕ) (i : Input) (line₁ : List ℕ) (first : Input) (t : Takes buffer line i.at i.end 0 line₁ first)
     (long : length line₁ ≡ length line) where
   -- what the bytes that are not taken yet come to
@@ -368,15 +356,17 @@ module _ (buffer line : List ℕ) (i : Input) (line₁ : List ℕ) (first : Inpu
   pub says_before : SaysLine first.found (reached came_before []) (take first.length line₁) (unread buffer first)
   says_before = takes_says buffer line i.at i.end 0 line₁ first t
 
-  pub starts : (known : Option (List ℕ)) → ReadOn buffer line₁ first buffer line₁ first most_reads came_before known known
-  starts known =
-      nothing_read buffer line₁ first came_before known
-      (omega (arith, long, not_too_long buffer line i.at i.end 0 line₁ first t (omega arith)))
-      (takes_no_end buffer line i.at i.end 0 line₁ first t)
+  pub no_end_before : EndsInput first.found came_before → ⊥
+  no_end_before = takes_no_end buffer line i.at i.end 0 line₁ first t
 
-  module _ (buffer' line' : List ℕ) (r : Input) (turns : ℕ) (known known' : Option (List ℕ))
-      (g : ReadOn buffer line₁ first buffer' line' r turns came_before known known') where
-    pub line_is_next : (r.found ≡ Nothing → turns ≡ 0) → NextLineFrom known known' buffer line i buffer' line' r
+  pub starts : (Given : List (List ℕ) → Type 0) → Given [] → ReadOn buffer line₁ first buffer line₁ first most_reads Given
+  starts Given h =
+      nothing_read buffer line₁ first Given
+      (omega (arith, long, not_too_long buffer line i.at i.end 0 line₁ first t (omega arith))) h
+
+  module _ (buffer' line' : List ℕ) (r : Input) (turns : ℕ) (Given : List (List ℕ) → Type 0)
+      (g : ReadOn buffer line₁ first buffer' line' r turns Given) where
+    pub line_is_next : (r.found ≡ Nothing → turns ≡ 0) → Next buffer line i buffer' line' r Given
     line_is_next used =
         record {
           next = record {
@@ -388,5 +378,4 @@ module _ (buffer line : List ℕ) (i : Input) (line₁ : List ℕ) (first : Inpu
             turns = λ e. omega (arith, g.reads e, used e);
           };
           given = g.given;
-          ended = λ e p. g.ended (subst (λ (m : ℕ). EndsInput r.found (goes_on m g.parts came_before).came) (sym long) e) p;
         }

@@ -2,6 +2,7 @@
 pub mod Taking
 pub mod Found
 pub mod Answers
+pub mod Reads
 pub mod Inner
 pub mod Lines
 pub mod Messages

@@ -5,7 +5,10 @@
 // `next_line` take its lines, each once, the last one without LF too (`every_line_once`).
 #![tactic(auto)]
 
-ghost use Rattle.std.specs.Prelude.{◌≡◌, ◌≤◌, length, Some};
+ghost use Rattle.std.specs.Prelude.{◌≡◌, ◌≤◌, ℕ, List, length, Option, Some, Result};
+ghost use Rattle.std.specs.Io.{ReadsAtMost};
+ghost use Rattle.std.specs.Io.KnownBytes.{ReadConsumes};
+ghost use Rattle.std.specs.declared.io.Error.{Error};
 ghost use Rattle.line_input.specs.Lines.{LineRead, SameMemory, seen};
 ghost use Rattle.line_input.specs.Messages.{failed_text};
 ghost use Rattle.line_input.specs.Inner.Answers.{Takes};
@@ -33,6 +36,32 @@ impl fmt::Display for Failed {
             Failed::Output => write!(f, "the output cannot be written"),
             Failed::Endless => write!(f, "the input does not end"),
         }
+    }
+}
+
+// A reader as lines are read from it: which bytes it has left, where it says so, and what a read of it shows. That may
+// be any relation, and nothing but a read shows it: so a contract can say which reads were made.
+pub trait Source {
+    ghost remaining: { Self → Option (List ℕ) };
+
+    // Of the reader before it, its answer, the bytes in the buffer then, and the reader after it.
+    ghost shows: { Self → Result ℕ Error → List ℕ → Self → Type 0 };
+
+    fn read_part(&mut self, buffer: &mut [u8]) -> io::Result<usize>
+        ensures bound { ReadsAtMost result buffer.new }
+        ensures bytes { ReadConsumes (remaining self.old) (remaining self.new) result buffer.new }
+        ensures shows { shows self.old result buffer.new self.new };
+}
+
+// Of a reader of the library a read shows which bytes it gave, where the reader says them.
+impl<R: Read> Source for R {
+    ghost remaining = { R.remaining };
+
+    ghost shows = { λ before answer bytes after.
+        ReadConsumes (R.remaining before) (R.remaining after) answer bytes };
+
+    fn read_part(&mut self, buffer: &mut [u8]) -> io::Result<usize> {
+        self.read(buffer)
     }
 }
 
@@ -80,23 +109,25 @@ impl<'a> Lines<'a> {
     }
 
     // Reads once, over bytes that are taken.
-    fn fill<R: Read>(&mut self, reader: &mut R) -> io::Result<usize>
+    fn fill<R: Source>(&mut self, reader: &mut R) -> io::Result<usize>
         ensures same_memory { SameMemory self.old self.new }
         ensures line { self.new.line ≡ self.old.line }
-        ensures filled { FilledBy (R.remaining reader.old) (R.remaining reader.new) self.new result }
+        ensures filled { FilledBy R.shows reader.old reader.new
+            (R.remaining reader.old) (R.remaining reader.new) self.new result }
     {
         self.at = 0;
         self.end = 0;
-        self.end = reader.read(self.buffer)?;
+        self.end = reader.read_part(self.buffer)?;
         Ok(self.end)
     }
 
     // The next line, of which so many bytes are held, or none at the end of the input. A last line needs no LF.
     //
     // A proved loop has to end, and nothing says that an input does: so many reads are an error.
-    pub fn next_line<R: Read>(&mut self, reader: &mut R) -> io::Result<Option<usize>>
+    pub fn next_line<R: Source>(&mut self, reader: &mut R) -> io::Result<Option<usize>>
         ensures same_memory { SameMemory self.old self.new }
-        ensures line { LineRead (R.remaining reader.old) (R.remaining reader.new) self.old self.new result }
+        ensures line { LineRead R.shows reader.old reader.new
+            (R.remaining reader.old) (R.remaining reader.new) self.old self.new result }
     {
         self.line.at = 0;
         if self.take() {

@@ -16,6 +16,7 @@ use Rattle.text_out.proofs.Outs.{then_put_room}
 use Rattle.line_input.specs.Found.{Input}
 use Rattle.line_input.specs.Found.{Nothing, Line, End}
 use Rattle.line_input.specs.declared.Lines.{Lines}
+use Rattle.line_input.specs.Reads.{Shows}
 use Rattle.line_input.specs.Lines.{LineRead, seen}
 use Rattle.line_input.specs.Taking.{held_lines}
 use Rattle.line_input.specs.Answers.{unread, NextLineFrom}
@@ -160,8 +161,9 @@ module _ (xs : List ℕ) (known shown₀ shown : Option (List ℕ)) (ws₀ ws : 
       (shown_more shown₀ shown shown' s.text (unasked_text (stage_is ws Stage.Reading)) s.written w)
 
 -- The same of a call of `next_line`, by its answer.
-module _ (xs : List ℕ) (known shown₀ shown : Option (List ℕ)) (ws₀ ws : List ℕ) (n : ℕ) (known' : Option (List ℕ)) (before after : Lines)
-    (r : Result (Option ℕ) Error) (l : LineRead known known' before after r)
+module _ {R : Type 0} {shows : Shows R} {reader reader' : R} (xs : List ℕ)
+    (known shown₀ shown : Option (List ℕ)) (ws₀ ws : List ℕ) (n : ℕ) (known' : Option (List ℕ)) (before after : Lines)
+    (r : Result (Option ℕ) Error) (l : LineRead shows reader reader' known known' before after r)
     (room : 0 < length before.buffer.now) (some : 0 < length before.line.bytes.now)
     (s : Solving xs (length before.line.bytes.now) known shown₀ shown ws₀ ws (unread before.buffer.now (seen before Nothing)) n) where
   pub line_solved : (held : ℕ) → r ≡ Ok (Some held) → length after.line.bytes.now ≡ length before.line.bytes.now
@@ -182,7 +184,8 @@ module _ (xs : List ℕ) (known shown₀ shown : Option (List ℕ)) (ws₀ ws : 
       all_solved xs known shown₀ shown ws₀ ws n known' before.buffer.now before.line.bytes.now (seen before Nothing)
       after.buffer.now after.line.bytes.now (seen after l.found) l.next room some s (found_end l.found after.line.at r l.answer e) shown' w
 
-pub held_within : (known known' : Option (List ℕ)) (before after : Lines) (r : Result (Option ℕ) Error) → LineRead known known' before after r
+pub held_within : {R : Type 0} {shows : Shows R} {reader reader' : R} (known known' : Option (List ℕ))
+    (before after : Lines) (r : Result (Option ℕ) Error) → LineRead shows reader reader' known known' before after r
     → length after.line.bytes.now ≡ length before.line.bytes.now → (held : ℕ) → r ≡ Ok (Some held) → held ≤ length after.line.bytes.now
 held_within known known' before after r l long held e =
     omega (arith, (found_line l.found after.line.at held r l.answer e).1, l.next.next.few, long)

@@ -1,6 +1,5 @@
 -- What the laws speak of, and the contracts of inner functions, beside `specs/Answers.antt`.
-use Rattle.std.specs.Prelude.{◌≡◌, List, [], ℕ, zero, suc, ◌+◌, ◌-◌, ◌<◌, ◌≤◌, length, take, drop, Option}
-use Rattle.std.specs.Io.KnownBytes.{Keeps, Consumes, IsAtEnd}
+use Rattle.std.specs.Prelude.{◌≡◌, List, ℕ, zero, suc, ◌+◌, ◌-◌, ◌≤◌, length, take, drop}
 use Rattle.std.proofs.Math.Seq.{slice}
 use Rattle.line_input.specs.Found.{Input}
 use Rattle.line_input.specs.Found.{Nothing, Line, End, Failed}
@@ -42,19 +41,3 @@ AfterRead failed buffer line count left r =
     (r ≡ record { at = 0; end = 0; length = count; found = Failed }) × (left ≡ line)
 AfterRead at_its_end buffer line count left r = (r ≡ end_of count) × (left ≡ line)
 AfterRead (bytes n) buffer line count left r = (n ≤ length buffer) × Takes buffer line 0 n count left r
-
-pub record ReadSome (buffer line : List ℕ) (count : ℕ) (left : List ℕ) (r : Input) : Type 0 where
-  pub got : Got
-  pub after : AfterRead got buffer line count left r
-
--- what the reader has given, where the bytes are known that it has left before and after
-unfoldable pub GivenBy : Got → (known known-left : Option (List ℕ)) (buffer : List ℕ) → Type 0
-GivenBy failed known known-left buffer = Keeps known known-left
-GivenBy at_its_end known known-left buffer =
-    Consumes known known-left [] × (0 < length buffer → IsAtEnd known-left)
-GivenBy (bytes n) known known-left buffer = Consumes known known-left (take n buffer)
-
-pub record ReadSomeFrom (known known-left : Option (List ℕ)) (buffer line : List ℕ) (count : ℕ) (left : List ℕ)
-    (r : Input) : Type 0 where
-  pub some : ReadSome buffer line count left r
-  pub given : GivenBy some.got known known-left buffer

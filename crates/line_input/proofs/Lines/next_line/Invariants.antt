@@ -4,4 +4,5 @@ use Rattle.line_input.proofs.Lines.next_line.Given as goal
 
 abbrev pub invariant-loop : goal.invariant-loop
 invariant-loop g l =
-    ReadingOn l.fn.self l.initial.self l.self l.counter (g.R.Read.remaining l.fn.reader) (g.R.Read.remaining l.reader)
+    ReadingOn g.R.Source.shows l.fn.self l.initial.self l.self l.counter l.fn.reader l.reader (g.R.Source.remaining l.fn.reader)
+    (g.R.Source.remaining l.reader)
