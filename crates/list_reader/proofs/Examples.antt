@@ -12,7 +12,7 @@ use Rattle.sort_text.specs.Parse.{same_bytes}
 use Rattle.sort_text.specs.Tokens.{run, past, skip}
 use Rattle.list_memory.specs.declared.Form.{Form}
 use Rattle.list_memory.specs.declared.Heard.{Heard}
-use Rattle.list_memory.specs.declared.Heard.TheVariants.{Quiet, Begins}
+use Rattle.list_memory.specs.declared.Heard.TheVariants.{Quiet, Begins, AsksOther}
 use Rattle.list_memory.specs.Layouts as Layouts
 use Rattle.list_tokens.specs.Words as Words
 use Rattle.text_out.specs.Quoted.{bytes_of}
@@ -74,3 +74,41 @@ unfolding told first zeros Layouts.layout_of Words.spelling Words.place_of Words
     Taking.append_run Taking.carried Taking.bad_line Storage.fixed_rows Taking.begun Taking.bare_taken Taking.question_taken Taking.words_taken
     Taking.other_taken Taking.answer_taken Taking.list_taken Taking.by_start Taking.line_taken
 lines_before_a_list = refl
+
+-- of several lists: a line not of the format ends the first, and the others begin anew
+lines_of_lists :
+    told [] (34048 ∷ 34053 ∷ 34058 ∷ 34071 ∷ 34103 ∷ [])
+    ("sub n0 n1"
+    ∷ "list first"
+    ∷ "expr e0 Nat"
+    ∷ "count nodes 7"
+    ∷ "default s3"
+    ∷ "sort s7 Nat"
+    ∷ "expr e1 Nat"
+    ∷ "= 0"
+    ∷ "list second"
+    ∷ "expr e1 Nat"
+    ∷ "list third"
+    ∷ "? unify n0 n1"
+    ∷ "# then"
+    ∷ "= 0"
+    ∷ "expr e0 Nat"
+    ∷ "list fourth"
+    ∷ [])
+    ≡ record {
+      heards =
+          Err Form.List ∷ Ok Begins ∷ Ok Quiet ∷ Ok Quiet ∷ Ok Quiet ∷ Err Form.Next ∷ Ok Quiet ∷ Ok Quiet ∷ Ok Begins ∷ Err Form.Next
+          ∷ Ok Begins ∷ Ok AsksOther ∷ Ok Quiet ∷ Ok Quiet ∷ Err Form.Asked ∷ Ok Begins ∷ [];
+      words = 6 ∷ 0 ∷ 1 ∷ 0 ∷ 1 ∷ [];
+    }
+unfolding told first zeros Layouts.layout_of Words.spelling Words.place_of Words.keyword_of Tokens.decimal_read
+    Tokens.number_read Tokens.name_token Tokens.token_of Tokens.tokens_from Tokens.tokens_of Tokens.line_start same_bytes run
+    past skip Items.is_of Items.word_of Items.word_at Items.fits_form Items.list_fits Items.function_fits Plans.grown Lines.is_next
+    Lines.function_plan Lines.parts_row Lines.sort_plan Lines.var_plan Lines.vars_plan Lines.bound_plan
+    Lines.bind_plan Lines.node_plan Lines.expr_plan Lines.name_plan Lines.default_plan Lines.pair_plan Lines.told_line
+    Lines.comprehension_plan Lines.disjunction_plan Lines.overload_plan Lines.join_plan
+    Lines.sources_plan Lines.entries_plan Lines.constraint_plan Lines.pad_plan Lines.plan_of
+    Lines.asks_other Taking.one_more_word Taking.row_kept Taking.appended Taking.append_times
+    Taking.append_run Taking.carried Taking.bad_line Storage.fixed_rows Taking.begun Taking.bare_taken Taking.question_taken Taking.words_taken
+    Taking.other_taken Taking.answer_taken Taking.list_taken Taking.by_start Taking.line_taken
+lines_of_lists = refl

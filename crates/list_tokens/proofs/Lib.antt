@@ -3,3 +3,6 @@ pub mod Places
 pub mod Digits
 pub mod Reading
 pub mod Examples
+pub mod Spelled
+pub mod AllWords
+pub mod Numbers

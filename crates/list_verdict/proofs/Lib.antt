@@ -4,3 +4,4 @@ pub mod Ways
 pub mod Rows
 pub mod Targets
 pub mod Longest
+pub mod Told

@@ -1,2 +1,3 @@
 -- What the reads and writes of the list program come to.
 pub mod Runs
+pub mod Laws

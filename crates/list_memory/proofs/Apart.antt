@@ -1,0 +1,43 @@
+-- No word of the list's memory has two meanings: the rows of two tables lie apart, and so do the outputs, the scratch and the words behind
+-- them. Computed from the definitions. Assumes nothing.
+use mathlib.Core.Path.{◌≡◌, refl}
+use mathlib.Core.Bool.{true, not, ◌||◌}
+use mathlib.Core.List.{List, [], ◌∷◌}
+use Prim.Native.Nat.{ℕ, ◌+◌, ◌*◌, ◌<◌, ◌≤◌}
+use native.Mathlib.Omega.{arith}
+use lib.Dec.{ltb, leb}
+use Rattle.std.specs.List.{list_all}
+use Rattle.inference.specs.Constraints.{max_sources, max_components}
+use Rattle.inference.specs.SolveChecks.{scratch_words}
+use Rattle.list_memory.specs.declared.Table.{Table}
+use Rattle.list_memory.specs.Memory.{list_typing_words, list_choice_words, list_sources_at, list_typing_at, list_measure_at, list_choices_at, list_scratch_at}
+use Rattle.list_memory.specs.Memory.{rows_at, default_at, counts_at, counts_told_at, lent_at, lent_told_at, stage_at, last_at, memory_words}
+use Rattle.list_memory.specs.Layouts.{table_number, layout_of}
+
+abbrev tables : List Table
+tables =
+    Table.Sorts ∷ Table.Entries ∷ Table.Nodes ∷ Table.NodeEntries ∷ Table.Vars ∷ Table.Exprs ∷ Table.Names ∷ Table.Constraints
+    ∷ Table.Overloads ∷ Table.Sources ∷ []
+
+-- behind the last row that a table keeps
+abbrev end_of : Table → ℕ
+end_of k = (layout_of k).start + (layout_of k).width * (layout_of k).ceiling
+
+-- a table of a lower number ends before another begins
+pub tables_lie_apart :
+    list_all (λ (a : Table). list_all (λ (b : Table). not (ltb (table_number a) (table_number b)) || leb (end_of a) (layout_of b).start) tables) tables ≡ true
+unfolding layout_of
+tables_lie_apart = refl
+
+-- behind the tables the outputs and the scratch
+pub outputs_lie_apart :
+    (list_sources_at + max_sources ≤ list_typing_at) × (list_typing_at + list_typing_words ≤ list_measure_at)
+    × (list_measure_at + max_components ≤ list_choices_at) × (list_choices_at + list_choice_words ≤ list_scratch_at)
+    × (list_scratch_at + scratch_words ≤ rows_at)
+outputs_lie_apart = (omega arith, omega arith, omega arith, omega arith, omega arith)
+
+-- and behind them what the lines told besides: a word for each of ten tables or twelve slices, or one
+pub told_words_lie_apart :
+    (rows_at + 10 ≤ default_at) × (default_at < counts_at) × (counts_at + 10 ≤ counts_told_at) × (counts_told_at + 10 ≤ lent_at)
+    × (lent_at + 12 ≤ lent_told_at) × (lent_told_at + 12 ≤ stage_at) × (stage_at < last_at) × (last_at < memory_words)
+told_words_lie_apart = (omega arith, omega arith, omega arith, omega arith, omega arith, omega arith, omega arith, omega arith)

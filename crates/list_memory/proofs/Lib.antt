@@ -1,0 +1,3 @@
+-- The laws of the list's memory.
+pub mod Apart
+pub mod Said

@@ -1,0 +1,2 @@
+-- The laws of the messages.
+pub mod Forms
