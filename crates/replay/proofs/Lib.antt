@@ -2,3 +2,4 @@
 mod Numbers
 mod Stores
 mod Replaying
+pub mod Written

@@ -1,9 +1,15 @@
 -- Lines asked again one after another, and what is said of them.
-use Rattle.std.specs.Prelude.{Bool, cond, List, [], ◌∷◌, ◌++◌, ℕ, leb, eqb, length, get_or, Option, Some, None}
+use Rattle.std.specs.Prelude.{◌≡◌, Bool, true, cond, List, [], ◌∷◌, ◌++◌, ℕ, ltb, leb, eqb, length, get_or}
+use Rattle.std.specs.Prelude.{Option, Some, None, IfSome}
 use Prim.Native.Char.{code}
 use Rattle.replay.specs.declared.Fields.{Fields}
 use Rattle.replay.specs.Inner.Numbers.{fields_of, values_read}
-use Rattle.std.specs.Io.KnownBytes.{Appends}
+use Rattle.std.specs.Io.KnownBytes.{Appends, prepend_known}
+use Rattle.line_input.specs.declared.Lines.{Lines}
+use Rattle.line_input.specs.Found.{Nothing}
+use Rattle.line_input.specs.Lines.{seen}
+use Rattle.line_input.specs.Answers.{unread}
+use Rattle.line_input.specs.Taking.{held_lines}
 use Rattle.replay.specs.declared.Verdict.{Verdict}
 use Rattle.replay.specs.declared.Verdict.TheVariants.{Quiet, NotOfForm}
 use Rattle.replay.specs.declared.Tally.{Tally}
@@ -53,11 +59,26 @@ unfoldable pub after_lines : {S : Type 0} → (S → ℕ → List ℕ → S × V
 after_lines step most r [] = r
 after_lines step most r (l ∷ ls) = after_lines step most (after_line step most r l) ls
 
--- What is said of lines, and at the end, is written.
+-- The bytes that lines are read from: those that are not taken yet, and those that the reader has left, where it says
+-- them and there is room to read and memory for a line.
+unfoldable pub known_input : Lines → Option (List ℕ) → Option (List ℕ)
+known_input lines known =
+    cond (ltb 0 (length lines.buffer.now))
+    (cond (ltb 0 (length lines.line.bytes.now)) (prepend_known (unread lines.buffer.now (seen lines Nothing)) known) None)
+    None
+
+-- Lines are the first ones of an input, each as far as it is held, and all of them where it was read to its end.
+pub record LinesOf (most : ℕ) (input : List ℕ) (lines : List (List ℕ)) (read : Bool) : Type 0 where
+  pub later : List (List ℕ)
+  pub first : held_lines most input ≡ lines ++ later
+  pub all : read ≡ true → later ≡ []
+
+-- What is said of lines, and at the end, is written; and they are those of the input, where its bytes are known.
 pub record Replayed {S : Type 0} (step : S → ℕ → List ℕ → S × Verdict) (complete : S → Bool) (most : ℕ) (s : S)
-    (shown shown-left : Option (List ℕ)) : Type 0 where
+    (known shown shown-left : Option (List ℕ)) : Type 0 where
   pub lines : List (List ℕ)
   pub read : Bool
   pub said : Appends shown shown-left
       ((after_lines step most (started s) lines).said
       ++ end_said (after_lines step most (started s) lines).tally read (complete (after_lines step most (started s) lines).held))
+  pub of_input : IfSome known (λ xs. LinesOf most xs lines read)

@@ -6,7 +6,7 @@ ghost use Rattle.std.specs.Prelude.{Bool, List, ℕ, ◌≡◌, ◌≤◌, lengt
 ghost use Rattle.replay.specs.Inner.Numbers.{max_fields, digits, number_at, fields_of, values_read};
 ghost use Rattle.std.specs.Io.KnownBytes.{Appends};
 ghost use Rattle.replay.specs.Said.{line_said, bad_said, other_said, said_of, unless, counted_unless, end_said};
-ghost use Rattle.replay.specs.Replays.{step_of, line_step, line_text, held_bytes, Replayed};
+ghost use Rattle.replay.specs.Replays.{step_of, line_step, line_text, held_bytes, known_input, Replayed};
 ghost use Rattle.replay.specs.Inner.Lines.{near_enough, words_kept, store_from, one_more, counted_of};
 
 use line_input::Lines;
@@ -315,7 +315,7 @@ pub fn replay_all<T: Recorded, R: Read, W: Write>(
     out: &mut W,
 ) -> io::Result<()>
     ensures { OnOk result (Replayed T.step T.complete (length lines.old.line.bytes.now) recorded.old
-        (W.contents out.old) (W.contents out.new)) }
+        (known_input lines.old (R.remaining reader.old)) (W.contents out.old) (W.contents out.new)) }
 {
     let most = lines.line.bytes.len();
     let mut tally = Tally {
@@ -342,7 +342,7 @@ pub fn run<T: Recorded, R: Read, W: Write>(
     out: &mut W,
 ) -> io::Result<()>
     ensures { OnOk result (Replayed T.step T.complete held_bytes recorded.old
-        (W.contents out.old) (W.contents out.new)) }
+        (R.remaining reader.old) (W.contents out.old) (W.contents out.new)) }
 {
     let mut buffer = [0u8; BUFFER_BYTES];
     let mut line = [0u8; HELD_LINE];

@@ -7,7 +7,7 @@ use Rattle.replay.proofs.Replaying as law
 use Rattle.replay.proofs.replay_all.Goals as goal
 
 pub loop-init : goal.loop-init
-loop-init g c = (law.none_replayed _ _ _ _, refl, refl)
+loop-init g c = record { replaying = law.none_replayed _ _ _ _ _ _; most_is = refl; line_long = refl; buffer_long = refl }
 
 pub slice_bounds-take_line-end : goal.slice_bounds-take_line-end
 slice_bounds-take_line-end g c =
@@ -19,16 +19,41 @@ slice_bounds-take_line-end g c =
 
 pub returns-in-Ok-None : goal.returns-in-Ok-None
 returns-in-Ok-None g c =
-    law.on_ok _ (law.all_replayed _ _ _ _ _ _ _ c.loop.invariant.0 _ _ _ _ c.is_complete.ensures) c.finish.ensures
+    law.on_ok _
+    (law.all_replayed _ _ _ _ _ _ _ _ _ _ c.loop.invariant.replaying _ _ _ _ c.is_complete.ensures
+    (λ xs k taken s.
+    let i = law.known_input_is _ _ xs k in
+    law.all_lines _ _ _ _ _ c.next_line.ensures.line (omega (arith, i.room, c.loop.invariant.buffer_long))
+    (omega (arith, i.some, c.loop.invariant.most_is, c.loop.invariant.line_long)) _ (sym c.loop.invariant.most_is) xs taken s
+    (c.in-Ok-None.is ∙ ap Ok c.in-Ok-None.field-0-is)))
+    c.finish.ensures
 
 pub returns-in-Err : goal.returns-in-Err
 returns-in-Err g c =
-    law.on_ok _ (law.all_replayed _ _ _ _ _ _ _ c.loop.invariant.0 _ _ _ _ c.is_complete-in-Err.ensures) c.finish-in-Err.ensures
+    law.on_ok _
+    (law.all_replayed _ _ _ _ _ _ _ _ _ _ c.loop.invariant.replaying _ _ _ _ c.is_complete-in-Err.ensures
+    (λ xs k taken s. law.first_lines _ _ _ _ _ s))
+    c.finish-in-Err.ensures
 
 pub loop-preserved : goal.loop-preserved
-loop-preserved g c = (
-  law.one_replayed _ _ _ _ _ _ _ c.loop.invariant.0 _ _ _ _ c.take_line.ensures.held c.in_ok-tally-in-Ok-Some.ensures.counted
-      c.in_ok-tally-in-Ok-Some.ensures.said,
-  omega (arith, c.loop.invariant.1, c.next_line.ensures.same_memory.line_long),
-  refl,
-)
+loop-preserved g c =
+    record {
+      replaying =
+          law.one_replayed _ _ _ _ _ _ _ _ _ _ c.loop.invariant.replaying _ _ _ _ _ _ c.take_line.ensures.held
+          c.in_ok-tally-in-Ok-Some.ensures.counted c.in_ok-tally-in-Ok-Some.ensures.said
+          (λ xs k taken s.
+          let i = law.known_input_is _ _ xs k in
+          law.one_line_more _ _ _ _ _ c.next_line.ensures.line (omega (arith, i.room, c.loop.invariant.buffer_long))
+          (omega (arith, i.some, c.loop.invariant.most_is, c.loop.invariant.line_long)) _ (sym c.loop.invariant.most_is) xs taken s
+          _ (c.in-Ok-Some.is ∙ ap Ok c.in-Ok-Some.field-0-is));
+      most_is = omega (arith, c.loop.invariant.most_is, c.next_line.ensures.same_memory.line_long);
+      line_long = c.loop.invariant.line_long;
+      buffer_long = c.next_line.ensures.same_memory.buffer_long ∙ c.loop.invariant.buffer_long;
+    }
+
+pub returns : goal.returns
+returns g c =
+    law.on_ok _
+    (law.all_replayed _ _ _ _ _ _ _ _ _ _ c.loop.invariant.replaying _ _ _ _ c.is_complete-2.ensures
+    (λ xs k taken s. law.first_lines _ _ _ _ _ s))
+    c.finish-2.ensures

@@ -1,10 +1,16 @@
--- The loop's invariant: what is said of the lines so far is written, and what is held and counted is what they leave.
--- Assumes nothing.
+-- The loop's invariant: what is said of the lines so far is written, what is held and counted is what they leave, and of an input whose
+-- bytes are known they are its first lines. Assumes nothing.
 use Rattle.std.proofs.Common.{length, ◌≡◌}
-use Rattle.replay.proofs.Replaying.{Replaying}
+use Rattle.replay.specs.Replays.{known_input}
+use Rattle.replay.proofs.Replaying.{Replaying, not_taken}
 use Rattle.replay.proofs.replay_all.Given as goal
 
 abbrev pub invariant-loop : goal.invariant-loop
 invariant-loop g l =
-    Replaying g.T.Recorded.step l.most l.fn.recorded (g.W.Write.contents l.fn.out) l.recorded l.tally (g.W.Write.contents l.out)
-    × (l.most ≡ length l.lines.line.bytes.now) × (l.most ≡ length l.fn.lines.line.bytes.now)
+    record {
+      replaying : Replaying g.T.Recorded.step l.most l.fn.recorded (known_input l.fn.lines (g.R.Read.remaining l.fn.reader)) (g.W.Write.contents l.fn.out)
+          l.recorded l.tally (not_taken l.lines) (g.R.Read.remaining l.reader) (g.W.Write.contents l.out);
+      most_is : l.most ≡ length l.lines.line.bytes.now;
+      line_long : l.most ≡ length l.fn.lines.line.bytes.now;
+      buffer_long : length l.lines.buffer.now ≡ length l.fn.lines.buffer.now;
+    }
