@@ -3,7 +3,7 @@
 use mathlib.Core.Path.{◌≡◌, refl}
 use mathlib.Core.Bool.{true, not, ◌||◌}
 use mathlib.Core.List.{List, [], ◌∷◌}
-use Prim.Native.Nat.{ℕ, ◌+◌, ◌*◌, ◌<◌, ◌≤◌}
+use Prim.Native.Nat.{ℕ, suc, ◌+◌, ◌*◌, ◌<◌, ◌≤◌}
 use native.Mathlib.Omega.{arith}
 use lib.Dec.{ltb, leb}
 use Rattle.std.specs.List.{list_all}
@@ -12,7 +12,7 @@ use Rattle.inference.specs.SolveChecks.{scratch_words}
 use Rattle.list_memory.specs.declared.Table.{Table}
 use Rattle.list_memory.specs.Memory.{list_typing_words, list_choice_words, list_sources_at, list_typing_at, list_measure_at, list_choices_at, list_scratch_at}
 use Rattle.list_memory.specs.Memory.{rows_at, default_at, counts_at, counts_told_at, lent_at, lent_told_at, stage_at, last_at, memory_words}
-use Rattle.list_memory.specs.Layouts.{table_number, layout_of}
+use Rattle.list_memory.specs.Layouts.{table_number, layout_of, list_row_at}
 
 abbrev tables : List Table
 tables =
@@ -28,6 +28,20 @@ pub tables_lie_apart :
     list_all (λ (a : Table). list_all (λ (b : Table). not (ltb (table_number a) (table_number b)) || leb (end_of a) (layout_of b).start) tables) tables ≡ true
 unfolding layout_of
 tables_lie_apart = refl
+
+-- and its rows follow one another
+pub rows_follow_one_another : (k : Table) (n : ℕ) → list_row_at k (suc n) ≡ list_row_at k n + (layout_of k).width
+unfolding layout_of
+rows_follow_one_another Table.Sorts n = omega arith
+rows_follow_one_another Table.Entries n = omega arith
+rows_follow_one_another Table.Nodes n = omega arith
+rows_follow_one_another Table.NodeEntries n = omega arith
+rows_follow_one_another Table.Vars n = omega arith
+rows_follow_one_another Table.Exprs n = omega arith
+rows_follow_one_another Table.Names n = omega arith
+rows_follow_one_another Table.Constraints n = omega arith
+rows_follow_one_another Table.Overloads n = omega arith
+rows_follow_one_another Table.Sources n = omega arith
 
 -- behind the tables the outputs and the scratch
 pub outputs_lie_apart :
