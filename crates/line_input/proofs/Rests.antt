@@ -15,7 +15,7 @@ use Rattle.line_input.specs.declared.Lines.{Lines}
 use Rattle.line_input.specs.Taking.{line_ends, going, take_line, Reached, reached, goes_on, some_line, no_line, following_of}
 use Rattle.line_input.specs.Answers.{unread, SaysLine, most_reads}
 use Rattle.line_input.specs.Reads.{Shows, Reads, no_read, a_read, ReadsThen, ReadsFor}
-use Rattle.line_input.specs.Lines.{LineRead, AnswersFound, seen}
+use Rattle.line_input.specs.Lines.{LineRead, SameMemory, AnswersFound, seen}
 use Rattle.line_input.proofs.Streams.{found_line, found_end}
 
 -- reads one after another, taken apart: none, or one that gave the first part, and then the others
@@ -92,6 +92,8 @@ module _ {R : Type 0} (shows : Shows R) (reader reader' : R) (before after : Lin
   pub record EndRests : Type 0 where
     pub parts : List (List ℕ)
     pub is : following_of (came before parts) ≡ no_line
+    pub none_held : held after after.line.at ≡ []
+    pub none_left : left after ≡ []
     pub last : LastRead parts (Ok 0)
 
   pub the_end_is_where_a_read_gave_nothing : {known known' : Option (List ℕ)} {r : Result (Option ℕ) Error} → Said known known' r
@@ -102,6 +104,8 @@ module _ {R : Type 0} (shows : Shows R) (reader reader' : R) (before after : Lin
       record {
         parts = l.next.next.parts;
         is = (subst (λ x. SaysLine x (came before l.next.next.parts) (held after after.line.at) (left after)) f l.next.next.says).0;
+        none_held = (subst (λ x. SaysLine x (came before l.next.next.parts) (held after after.line.at) (left after)) f l.next.next.says).1;
+        none_left = (subst (λ x. SaysLine x (came before l.next.next.parts) (held after after.line.at) (left after)) f l.next.next.says).2;
         last = last_read (subst (λ x. ReadsFor shows x (came before l.next.next.parts).came reader l.next.next.parts reader' r) f l.reads);
       }
 
@@ -137,3 +141,8 @@ module _ {R : Type 0} (shows : Shows R) (reader reader' : R) (before after : Lin
   pub what_is_behind_the_line_stays : {known known' : Option (List ℕ)} {r : Result (Option ℕ) Error} → Said known known' r
       → drop after.line.at after.line.bytes.now ≡ drop after.line.at before.line.bytes.now
   what_is_behind_the_line_stays l = l.next.next.behind
+
+-- the buffer and the line's memory are those that were lent
+pub the_memory_lent_stays : {before after : Lines} → SameMemory before after
+    → (after.buffer.ghost_name ≡ before.buffer.ghost_name) × (after.line.bytes.ghost_name ≡ before.line.bytes.ghost_name)
+the_memory_lent_stays m = (m.buffer, m.line)
