@@ -12,6 +12,7 @@ use borrow.Author.Tests.{leb-true}
 use lib.ListN.{length, get_or, drop, length-append, length-drop}
 use lib.Seq.{drop-append_seam}
 use Rattle.std.specs.Prelude.{Ok, Err}
+use Rattle.std.proofs.lemmas.List.{get_or-drop}
 use Rattle.resolved_sort.specs.Checks.{first_failing, Tested}
 use Rattle.resolved_sort.proofs.Reached.{no_confusion}
 use Rattle.unification.specs.Making.{Lent}
@@ -22,6 +23,7 @@ use Rattle.inference.specs.Search.{Choice, Candidate, Out, found, missed, ended,
 use Rattle.inference.specs.SolveChecks.{Call, given, disjunctions, components as componentCount, outputs_long, long_enough, solve_checks}
 use Rattle.inference.specs.SolveEntry.{base_names_of, searched, typing_rows, choice_rows, counts_in, judged, judged_by, verdict, nothing_met}
 use Rattle.inference.specs.SolveEntry.{SolveLeft, refused, solve_entry, choices_out}
+use Rattle.inference.specs.Named.{Named}
 use Rattle.inference.specs.OutputsLeft.{RowsPastUntouched}
 use Rattle.inference.proofs.Members.{length_rows}
 use Rattle.inference.proofs.Invariant.{Fine, FineBest, Leaves}
@@ -141,3 +143,28 @@ module _ (I : Call) where
         measure = v.measure.behind;
         choices = v.choices.behind;
       }
+
+-- What is said of outputs after a typing, each clause read alone: word by word behind the rows, which fit.
+past : (n i : ℕ) (xs ys : List ℕ) → drop n xs ≡ drop n ys → n ≤ i → get_or xs i 0 ≡ get_or ys i 0
+past n i xs ys d l =
+    let z : n + (i - n) ≡ i = omega (arith, l) in
+    let at : (zs : List ℕ) → get_or (drop n zs) (i - n) 0 ≡ get_or zs i 0 =
+    (λ zs. get_or-drop n zs (i - n) 0 ∙ ap (λ (k : ℕ). get_or zs k 0) z) in
+    sym (at xs) ∙ (ap (λ (zs : List ℕ). get_or zs (i - n) 0) d ∙ at ys)
+
+module _ (I : Call) (L : SolveLeft) (o : Outputs) (r : RowsPastUntouched I L o) where
+  pub words_past_stand : ((i : ℕ) → 3 * I.rows.exprs ≤ i → get_or L.typing i 0 ≡ get_or I.typing i 0)
+      × ((i : ℕ) → o.components ≤ i → get_or L.measure i 0 ≡ get_or I.measure i 0)
+      × ((i : ℕ) → 2 * o.choices ≤ i → get_or L.choices i 0 ≡ get_or I.choices i 0)
+  words_past_stand = (
+    λ i l. past (3 * I.rows.exprs) i L.typing I.typing r.typing l,
+    λ i l. past o.components i L.measure I.measure r.measure l,
+    λ i l. past (2 * o.choices) i L.choices I.choices r.choices l,
+  )
+
+  pub rows_fit_in_outputs : first_failing (solve_checks I) ≡ Ok tt → (ks : List Choice) → Named I L o ks → (3 * I.rows.exprs ≤ length L.typing)
+      × (o.components ≤ length L.measure) × (2 * o.choices ≤ length L.choices)
+  rows_fit_in_outputs f ks n =
+      let h = outputs_have_room I f in
+      let m = as_many_as_asked I L o ks n in
+      (omega (arith, h.0, r.typing_long), omega (arith, h.1, m.0, r.measure_long), omega (arith, h.2, m.1, r.choices_long))

@@ -29,6 +29,7 @@ use Rattle.inference.specs.Explained.{Explained}
 use Rattle.inference.specs.Named.{Named}
 use Rattle.inference.specs.Leaves.{times, Least, history, leaves_met, code_left, ByLeaves}
 use Rattle.inference.specs.ListsLeft.{counts_told, SortsGrown}
+use Rattle.inference.specs.OutputsLeft.{RowsPastUntouched}
 use Rattle.inference.proofs.Members.{not_in_nothing}
 use Rattle.inference.proofs.LeavesMet.{least_is_one}
 use Rattle.solve_outputs.specs.Packed.{pack_solved, SolvedWithin, PackedSolve}
@@ -58,6 +59,10 @@ module _ (I : Call) (L : SolveLeft) (s : EntrySays I L) where
   -- and each component and name is what document 01 says
   pub entry_is_explained : (o : Outputs) → L.answer ≡ Ok (Typing o) → Explained I L o × Named I L o (choices_out L o)
   entry_is_explained o q = ((says_by (Ok (Typing o)) q).explained, (says_by (Ok (Typing o)) q).named)
+
+  -- its outputs are as long as they were lent, with the rows past its counts as they were
+  pub entry_leaves_rows_past : (o : Outputs) → L.answer ≡ Ok (Typing o) → RowsPastUntouched I L o
+  entry_leaves_rows_past o q = (says_by (Ok (Typing o)) q).rows
 
   -- Where no check refuses a list without constraints, it answers a typing, or 15.
   pub entry_without_constraints : first_failing (solve_checks I) ≡ Ok tt → I.rows.constraints ≡ 0 → TypingOr15 L.answer
