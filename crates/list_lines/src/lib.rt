@@ -31,8 +31,8 @@ fn put_unasked(unasked: bool, out: &mut Out<'_>)
     }
 }
 
-// A line of the input, without its LF, of which at most the first 201 bytes count. Its output is put into the buffer, as
-// far as there is room. The answer is whether the line's number is to stand before it.
+// A line of the input, without its LF, as far as it is held (HELD_LINE). Its output is put into the buffer, as far as
+// there is room. The answer is whether the line's number is to stand before it.
 pub fn hear(list: &mut List, line: &[u8], out: &mut Out<'_>) -> bool
     ensures { line_left list.new.words out.new result ≡ heard_line list.old.words line.now out.old }
 {

@@ -3,7 +3,7 @@
 use mathlib.Core.Path.{◌≡◌, refl}
 use mathlib.Core.Bool.{true, not, ◌||◌}
 use mathlib.Core.List.{List, [], ◌∷◌}
-use Prim.Native.Nat.{ℕ, suc, ◌+◌, ◌*◌, ◌<◌, ◌≤◌}
+use Prim.Native.Nat.{ℕ, suc, ◌+◌, ◌*◌, ◌^◌, ◌<◌, ◌≤◌}
 use native.Mathlib.Omega.{arith}
 use lib.Dec.{ltb, leb}
 use Rattle.std.specs.List.{list_all}
@@ -11,7 +11,7 @@ use Rattle.inference.specs.Constraints.{max_sources, max_components}
 use Rattle.inference.specs.SolveChecks.{scratch_words}
 use Rattle.list_memory.specs.declared.Table.{Table}
 use Rattle.list_memory.specs.Memory.{list_typing_words, list_choice_words, list_sources_at, list_typing_at, list_measure_at, list_choices_at, list_scratch_at}
-use Rattle.list_memory.specs.Memory.{rows_at, default_at, counts_at, counts_told_at, lent_at, lent_told_at, stage_at, last_at, memory_words}
+use Rattle.list_memory.specs.Memory.{rows_at, most_rows, default_at, counts_at, counts_told_at, lent_at, lent_told_at, stage_at, last_at, memory_words}
 use Rattle.list_memory.specs.Layouts.{table_number, layout_of, list_row_at}
 
 abbrev tables : List Table
@@ -55,3 +55,11 @@ pub told_words_lie_apart :
     (rows_at + 10 ≤ default_at) × (default_at < counts_at) × (counts_at + 10 ≤ counts_told_at) × (counts_told_at + 10 ≤ lent_at)
     × (lent_at + 12 ≤ lent_told_at) × (lent_told_at + 12 ≤ stage_at) × (stage_at < last_at) × (last_at < memory_words)
 told_words_lie_apart = (omega arith, omega arith, omega arith, omega arith, omega arith, omega arith, omega arith, omega arith)
+
+-- seven words behind the last are free
+pub seven_words_are_free : last_at + 8 ≡ memory_words
+seven_words_are_free = omega arith
+
+-- rows are counted as far as a word goes
+pub rows_are_counted_as_far_as_a_word_goes : most_rows + 1 ≡ 2 ^ 16
+rows_are_counted_as_far_as_a_word_goes = omega arith

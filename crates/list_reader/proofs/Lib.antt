@@ -2,3 +2,4 @@
 pub mod Rows
 pub mod Examples
 pub mod Stages
+pub mod Kept
