@@ -13,7 +13,7 @@ use borrow.Author.Tests.{ltb-false, leb-false}
 use Rattle.std.specs.Prelude.{Ok}
 use Rattle.resolved_sort.specs.declared.Counts.{Counts}
 use Rattle.resolved_sort.specs.Interning.{look, member, need}
-use Rattle.resolved_sort.specs.Storage.{max_sorts, max_entries, row_words, entries_at, entry_at}
+use Rattle.resolved_sort.specs.Storage.{max_sorts, max_entries, max_arguments, row_words, entries_at, entry_at}
 use Rattle.resolved_sort.specs.Checks.{first_failing, sort_checks}
 use Rattle.resolved_sort.specs.Entries.{tree_at}
 use Rattle.resolved_sort.specs.Growing.{needs}
@@ -56,11 +56,13 @@ module _ (ws : List ℕ) (n e : ℕ) (vs : List ℕ) where
       → ((i : ℕ) → i < n → tree_at vs n i ≡ tree_at ws n i) × (first_failing (sort_checks vs n e) ≡ Ok tt)
   words_put_back_read_as_given p = (p.old, p.again)
 
--- "a new distinct sort would exceed 1,024 sorts or 4,096 entries": it is at no number of the list, and no row or no entries are left for it
+-- "a new distinct sort would exceed 1,024 sorts or 4,096 entries": it is at no number of the list, and no row or no entries are left for it, though it needs
+-- no more than a function may
 pub room_ended_at_a_new_sort : (ws : List ℕ) (n e : ℕ) (r : RanOut ws n e)
     → ((i : ℕ) → i < length r.so_far.trees → look r.so_far.trees i ≡ r.wanted → ⊥)
     × ((max_sorts ≤ length r.so_far.trees) ⊎ (max_entries < e + needs (drop n r.so_far.trees) + need r.wanted))
-room_ended_at_a_new_sort ws n e r = (new, go (ltb 0 r.so_far.rows) (leb (need r.wanted) r.so_far.entries) refl refl r.too_big)
+    × (need r.wanted ≤ max_arguments)
+room_ended_at_a_new_sort ws n e r = (new, go (ltb 0 r.so_far.rows) (leb (need r.wanted) r.so_far.entries) refl refl r.too_big, r.few)
   where
     new : (i : ℕ) → i < length r.so_far.trees → look r.so_far.trees i ≡ r.wanted → ⊥
     new i l q =
@@ -72,3 +74,13 @@ room_ended_at_a_new_sort ws n e r = (new, go (ltb 0 r.so_far.rows) (leb (need r.
     go false b x y q = inl (omega (arith, ltb-false 0 r.so_far.rows x, r.grown.rows))
     go true false x y q = inr (omega (arith, leb-false (need r.wanted) r.so_far.entries y, r.grown.used, r.grown.entries))
     go true true x y q = let z : true ≡ false = q in no_confusion (cc)
+
+-- so room does not end far from a ceiling
+pub room_ends_near_a_ceiling : (ws : List ℕ) (n e : ℕ) (r : RanOut ws n e)
+    → (max_sorts ≤ length r.so_far.trees) ⊎ (max_entries < e + needs (drop n r.so_far.trees) + max_arguments)
+room_ends_near_a_ceiling ws n e r = go (room_ended_at_a_new_sort ws n e r).1
+  where
+    go : (max_sorts ≤ length r.so_far.trees) ⊎ (max_entries < e + needs (drop n r.so_far.trees) + need r.wanted)
+        → (max_sorts ≤ length r.so_far.trees) ⊎ (max_entries < e + needs (drop n r.so_far.trees) + max_arguments)
+    go (inl x) = inl x
+    go (inr x) = inr (omega (arith, x, r.few))

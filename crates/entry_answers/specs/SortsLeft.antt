@@ -3,8 +3,8 @@
 use Rattle.std.specs.Prelude.{◌≡◌, false, List, ℕ, ◌*◌, ◌<◌, ◌≤◌, length, get_or, Ok}
 use Rattle.resolved_sort.specs.declared.Counts.{Counts}
 use Rattle.resolved_sort.specs.Tree.{Tree}
-use Rattle.resolved_sort.specs.Interning.{Sorts, member, fits}
-use Rattle.resolved_sort.specs.Storage.{row_words, entries_at, entry_at}
+use Rattle.resolved_sort.specs.Interning.{Sorts, member, need, fits}
+use Rattle.resolved_sort.specs.Storage.{max_arguments, row_words, entries_at, entry_at}
 use Rattle.resolved_sort.specs.Checks.{first_failing, sort_checks}
 use Rattle.resolved_sort.specs.Entries.{tree_at, counts_of, after}
 use Rattle.resolved_sort.specs.Growing.{Grown}
@@ -40,10 +40,11 @@ pub record SortsPutBack (ws : List ℕ) (n e : ℕ) (vs : List ℕ) : Type 0 whe
   pub again : first_failing (sort_checks vs n e) ≡ Ok tt
 
 -- "a new distinct sort would exceed 1,024 sorts or 4,096 entries": a list grown from the given one, and a sort that it
--- has not and that does not fit.
+-- has not and that does not fit, though it has no more arguments than a function may have.
 pub record RanOut (ws : List ℕ) (n e : ℕ) : Type 0 where
   pub so_far : Sorts
   pub grown : Grown ws n e so_far
   pub wanted : Tree
+  pub few : need wanted ≤ max_arguments
   pub absent : member so_far.trees wanted ≡ false
   pub too_big : fits wanted so_far ≡ false

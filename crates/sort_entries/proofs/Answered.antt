@@ -27,8 +27,9 @@ use Rattle.resolved_sort.proofs.FirstFailing.{cons_passes}
 use Rattle.resolved_sort.proofs.FailingNumber.{failing_number}
 use Rattle.resolved_sort.proofs.Numbers.{look_number, number_below}
 use Rattle.resolved_sort.proofs.Made.{make_answers}
+use Rattle.resolved_sort.proofs.Stored.{look_whole}
 use Rattle.entry_answers.proofs.SortsLeft.{own_number, grew, put_back, put_back_once}
-use Rattle.entry_answers.proofs.RanOut.{Ends, make_ends, ran_out}
+use Rattle.entry_answers.proofs.RanOut.{Ends, Anything, make_ends, ran_out}
 use Rattle.sort_entries.proofs.Laws.{sorts_asked, outcome_kept}
 use Rattle.sort_entries.specs.Answered.{BoundRefused, BoundFound, BoundNone, BoundNoRoom, BoundSays, bound_asked, made_asked}
 
@@ -61,7 +62,7 @@ module _ (up : Bool) (ws : List ℕ) (n e a b : ℕ) where
     six = (cons_passes _ _ (cons_passes _ _ f).1).0
 
     by_outcome : (O : Outcome Tree) → made_asked up ws n e a b ≡ O → SortsKept ws n e InTree (sorts_of ws n e) O
-        → Answers (bound_asked up ws n e a b) O → Ends O
+        → Answers (bound_asked up ws n e a b) O → Ends Anything O
         → BoundSays up ws n e a b (left (stored ws n e O)).words (left (stored ws n e O)).answer
     unfolding SortsKept stored sorts_left_by Answers ran_out
     by_outcome (made t S) m h x y =
@@ -86,7 +87,7 @@ module _ (up : Bool) (ws : List ℕ) (n e a b : ℕ) where
           left = record { words = refl; counts = refl };
         }
     by_outcome (full S) m h x y =
-        inr (record { passed = f; ran_out = ran_out ws n e Tree S h.0 y; made_so = m; put_back = put_back ws n e asked.checked six }, refl)
+        inr (record { passed = f; ran_out = ran_out ws n e Tree Anything S h.0 y; made_so = m; put_back = put_back ws n e asked.checked six }, refl)
 
   -- Whatever words, counts and numbers the entry is given: what its answer and the words that it leaves say.
   pub entry_is_bound : (vs : List ℕ) (r : Bounded) → sorts_left vs r ≡ bounded up ws n e a b → BoundSays up ws n e a b vs r
@@ -104,7 +105,7 @@ module _ (up : Bool) (ws : List ℕ) (n e a b : ℕ) where
           subst says (sym w)
           (by_outcome f (make up (tree_at ws n a) (tree_at ws n b) (sorts_of ws n e)) refl (outcome_kept up ws n e a b (asked f))
           (make_answers up (tree_at ws n a) (tree_at ws n b) (sorts_of ws n e))
-          (make_ends up (tree_at ws n a) (tree_at ws n b) (sorts_of ws n e)))
+          (make_ends (trees ws n) up (tree_at ws n a) (tree_at ws n b) (sorts_of ws n e) (look_whole ws n e (asked f).checked a (asked f).lhs)))
       go (Err c) f w =
           subst says (sym w)
           (inl (record { first = f; given = refl }, λ q. full_is_no_check c (ap code_of q) (refused_by_number ws n e a b c f)))

@@ -2,15 +2,18 @@
 -- unread end; a sort's number stands for the line's sort in the words left; room ended at a sort that did not fit. By what storing answers
 -- (`store_stores`), keeps (`store_kept`) and ends at. Assumes nothing.
 use mathlib.Core.Path.{◌≡◌, refl, sym, ◌∙◌, ap, ap₂, subst}
+use mathlib.Core.Bool.{true, ◌&&◌, and-eq-true_iff}
 use mathlib.Core.Logic.{◌↔◌}
 use mathlib.Core.List.{List, []}
 use Prim.Native.Nat.{ℕ, ◌-◌}
 use native.Mathlib.Omega.{arith}
 use Rattle.std.specs.Prelude.{Ok, Err}
-use Rattle.resolved_sort.specs.Tree.{Tree, flat, container, function, Trees, no_args, arg}
+use Rattle.resolved_sort.specs.Tree.{Tree, flat, container, function, Trees, no_args, arg, arity}
 use Rattle.resolved_sort.specs.Interning.{Sorts, look, number, Outcome, made, nothing, full}
-use Rattle.resolved_sort.specs.Storage.{sorts_of, trees, given_back}
+use Rattle.resolved_sort.specs.Storage.{max_arguments, sorts_of, trees, given_back}
 use Rattle.resolved_sort.specs.Checks.{first_failing, Tested}
+use lib.Dec.{leb}
+use borrow.Author.Tests.{leb-true}
 use lib.ListN.{length, drop, length-drop}
 use Rattle.resolved_sort.specs.declared.Counts.{Counts}
 use Rattle.resolved_sort.specs.declared.Refusal.{Refusal}
@@ -19,32 +22,39 @@ use Rattle.resolved_sort.specs.Entries.{refused_or, tree_at, counts_of, after, s
 use Rattle.resolved_sort.specs.Growing.{SortsKept, InTree}
 use Rattle.resolved_sort.proofs.Numbers.{look_number, number_below}
 use Rattle.entry_answers.proofs.SortsLeft.{own_number, grew, put_back, put_back_once}
-use Rattle.entry_answers.proofs.RanOut.{Ends, ends_then, made_ends, intern_ends, ran_out}
+use Rattle.entry_answers.proofs.RanOut.{Ends, Anything, AsMany, one_more, ends_then, made_ends, flat_ends, container_ends, function_ends, ran_out}
 use Rattle.sort_text.specs.declared.Unread.TheVariants.{Refused, NotASort, NoRoom}
 use Rattle.sort_text.specs.Parse.{Parsed, parsed, stuck, line}
+use Rattle.sort_text.specs.Readable.{few, fews}
 use Rattle.sort_text.specs.Reading.{store, stores, read_checks, ReadAnswer, ReadLeft, read_left, stored_by, read_as_of, reading}
 use Rattle.sort_text.proofs.Stores.{Stores, store_stores}
 use Rattle.sort_text.proofs.Suffix.{unread_end}
-use Rattle.sort_text.proofs.WhatIsRead.{line_read_whole}
+use Rattle.sort_text.proofs.WhatIsRead.{line_few, line_read_whole}
 use Rattle.sort_reader.specs.Inner.Tested.{Passes}
 use Rattle.sort_reader.specs.Answered.{ReadRefused, ReadStuck, ReadSort, ReadNoRoom, ReadSays}
 use Rattle.sort_reader.proofs.Entry.{passes, primitives_in, store_kept}
 
+-- storing a sort with at most 16 arguments at each function ends only where a sort does not fit
 mutual
-  unfolding store stores
+  unfolding store stores few fews
 
-  store_ends : (t : Tree) (S : Sorts) → Ends (store t S)
-  store_ends (flat a) S = intern_ends (flat a) S
-  store_ends (container o t) S = ends_then (store t S) _ (store_ends t S) (λ u S₁. intern_ends (container o u) S₁)
-  store_ends (function ts r) S =
-      ends_then (stores ts S) _ (stores_end ts S)
-      (λ us S₁. ends_then (store r S₁) _ (store_ends r S₁) (λ v S₂. intern_ends (function us v) S₂))
+  store_ends : (t : Tree) (S : Sorts) → few t ≡ true → Ends Anything (store t S)
+  store_ends (flat a) S w = flat_ends a S
+  store_ends (container o t) S w = ends_then Anything Anything (store t S) _ (store_ends t S w) (λ u S₁ x. container_ends o u S₁)
+  store_ends (function ts r) S w =
+      let x = (and-eq-true_iff (leb (arity ts) max_arguments && fews ts) (few r)).0 w in
+      let y = (and-eq-true_iff (leb (arity ts) max_arguments) (fews ts)).0 x.0 in
+      let l = leb-true (arity ts) max_arguments y.0 in
+      ends_then (AsMany ts) Anything (stores ts S) _ (stores_end ts S y.1)
+      (λ us S₁ q. ends_then Anything Anything (store r S₁) _ (store_ends r S₁ x.1) (λ v S₂ z. function_ends us v S₂ (omega (arith, q, l))))
 
-  stores_end : (ts : Trees) (S : Sorts) → Ends (stores ts S)
-  stores_end no_args S = made_ends no_args S
-  stores_end (arg t ts) S =
-      ends_then (store t S) _ (store_ends t S)
-      (λ u S₁. ends_then (stores ts S₁) _ (stores_end ts S₁) (λ us S₂. made_ends (arg u us) S₂))
+  stores_end : (ts : Trees) (S : Sorts) → fews ts ≡ true → Ends (AsMany ts) (stores ts S)
+  stores_end no_args S w = made_ends (AsMany no_args) no_args S refl
+  stores_end (arg t ts) S w =
+      let x = (and-eq-true_iff (few t) (fews ts)).0 w in
+      ends_then Anything (AsMany (arg t ts)) (store t S) _ (store_ends t S x.0)
+      (λ u S₁ y. ends_then (AsMany ts) (AsMany (arg t ts)) (stores ts S₁) _ (stores_end ts S₁ x.1)
+      (λ us S₂ q. made_ends (AsMany (arg t ts)) (arg u us) S₂ (one_more ts t us u q)))
 
 module _ (ws : List ℕ) (n e : ℕ) (bs : List ℕ) where
   abbrev says : ReadLeft → Type 0
@@ -55,7 +65,7 @@ module _ (ws : List ℕ) (n e : ℕ) (bs : List ℕ) where
     passed = passes ws n e bs (Ok tt) (sym f) refl
 
     by_outcome : (t : Tree) → line bs ≡ parsed t [] → (O : Outcome Tree) → store t (sorts_of ws n e) ≡ O → SortsKept ws n e InTree (sorts_of ws n e) O
-        → Stores t O → Ends O → says (stored_by ws n e (stored ws n e O) (stored ws n e O).answer)
+        → Stores t O → Ends Anything O → says (stored_by ws n e (stored ws n e O) (stored ws n e O).answer)
     unfolding SortsKept stored stored_by Stores ran_out
     by_outcome t l (made u S) m h x y =
         let stands : look (trees (after ws n e S) (length S.trees)) (number S.trees u) ≡ t =
@@ -77,7 +87,7 @@ module _ (ws : List ℕ) (n e : ℕ) (bs : List ℕ) where
           passed = f;
           sort = t;
           is = l;
-          ran_out = ran_out ws n e Tree S h.0 y;
+          ran_out = ran_out ws n e Tree Anything S h.0 y;
           stored_so = m;
           put_back = put_back ws n e passed.checked passed.six;
         }
@@ -86,7 +96,7 @@ module _ (ws : List ℕ) (n e : ℕ) (bs : List ℕ) where
     unfolding read_as_of
     by_line (parsed t cs) l =
         by_outcome t (l ∙ ap (parsed t) (line_read_whole bs cs t l)) (store t (sorts_of ws n e)) refl (store_kept ws n e bs passed cs t l)
-        (store_stores t (sorts_of ws n e) (primitives_in ws n e bs passed)) (store_ends t (sorts_of ws n e))
+        (store_stores t (sorts_of ws n e) (primitives_in ws n e bs passed)) (store_ends t (sorts_of ws n e) (line_few bs cs t l))
     by_line (stuck cs) l =
         record { passed = f; inside = omega arith; is = l ∙ ap stuck (sym (unread_end bs cs l)); given = refl }
 
