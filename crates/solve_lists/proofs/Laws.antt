@@ -1,16 +1,20 @@
 -- What the contract of `solve_all` says of a reader and a writer that say their bytes; and what is printed for one line more: a line not of
 -- the format is told by its own number, one that is passed over is not told, and both count. Assumes nothing.
-use mathlib.Core.Path.{◌≡◌, ap}
+use mathlib.Core.Path.{◌≡◌, ap, ◌∙◌}
 use mathlib.Core.Bool.{true}
-use mathlib.Core.List.{List, ◌∷◌, ◌++◌}
-use Prim.Native.Nat.{ℕ, ◌+◌}
+use mathlib.Core.List.{List, ◌∷◌, ◌++◌, append_assoc}
+use Prim.Native.Nat.{ℕ, ◌+◌, ◌≤◌}
+use lib.ListN.{length}
 use Rattle.std.specs.Prelude.{Some, Ok, Err}
 use Rattle.line_input.specs.Taking.{held_lines}
 use Rattle.list_memory.specs.declared.Form.{Form}
-use Rattle.list_memory.specs.declared.Heard.TheVariants.{Quiet}
-use Rattle.list_memory.specs.Memory.{Taken, taken}
-use Rattle.list_reader.specs.Taking.{line_taken}
-use Rattle.list_lines.specs.Lines.{printed, numbered}
+use Rattle.list_memory.specs.declared.Heard.TheVariants.{Quiet, Begins}
+use Rattle.list_memory.specs.declared.Stage.{Stage}
+use Rattle.text_out.specs.Quoted.{bytes_of}
+use Rattle.list_memory.specs.Memory.{memory_words, Taken, taken}
+use Rattle.list_reader.specs.Taking.{stage_is, begun, line_taken}
+use Rattle.list_reader.proofs.Stages.{list_keeps_nothing_of_the_one_before}
+use Rattle.list_lines.specs.Lines.{unasked_text, printed, numbered}
 use Rattle.solve_lists.specs.Printed.{number_text, taken_printed, all_printed, InputPrinted}
 
 -- What is printed for an input is written behind what was written before it.
@@ -32,3 +36,15 @@ module _ (n : ℕ) (ws line : List ℕ) (ls : List (List ℕ)) where
       → all_printed n ws (line ∷ ls) ≡ all_printed (n + 1) vs ls
   unfolding numbered printed number_text
   line_passed_over_is_not_told vs e = by_what_it_came_to (taken vs (Ok Quiet)) e
+
+  -- What is printed from a `list` line on is that of its list and those after it, whatever the list before was: of that one it is only said
+  -- whether anything was asked.
+  pub what_is_printed_of_a_list_is_its_own : (vs : List ℕ) → length ws ≤ memory_words → length vs ≤ memory_words
+      → line_taken ws line ≡ taken (begun ws) (Ok Begins)
+      → all_printed n ws (line ∷ ls) ≡ unasked_text (stage_is ws Stage.Reading) ++ ((line ++ bytes_of "\n") ++ all_printed (n + 1) (begun vs) ls)
+  unfolding numbered printed number_text
+  what_is_printed_of_a_list_is_its_own vs l m e =
+      by_what_it_came_to (taken (begun ws) (Ok Begins)) e
+      ∙ (append_assoc (unasked_text (stage_is ws Stage.Reading)) (line ++ bytes_of "\n") (all_printed (n + 1) (begun ws) ls)
+      ∙ ap (λ us. unasked_text (stage_is ws Stage.Reading) ++ ((line ++ bytes_of "\n") ++ all_printed (n + 1) us ls))
+      (list_keeps_nothing_of_the_one_before ws vs l m))
