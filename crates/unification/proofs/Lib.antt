@@ -48,6 +48,7 @@ pub mod Assignments
 pub mod BindsGrow
 pub mod SortsLeft
 pub mod ResolveAnswers
+pub mod NoRoomSays
 pub mod BoundAnswers
 pub mod MostGeneral
 pub mod UpToNames
