@@ -193,9 +193,6 @@ module _ {R : Type 0} {shows : Shows R} where
 
   module _ (before first now : Lines) (reads : ℕ) (reader₀ reader : R) (known₀ known : Option (List ℕ))
       (g : ReadingOn shows before first now reads reader₀ reader known₀ known) where
-    pub room_for_line : (line : Out) → line ≡ now.line → line.at ≤ length line.bytes.now
-    room_for_line line e = subst (λ (o : Out). o.at ≤ length o.bytes.now) (sym e) (omega (arith, g.on.few, g.on.line_long))
-
     -- the reads are used up
     pub reads_used_up : most_reads ≤ reads → (e : Error) → error_kind e ≡ TimedOut → LineRead shows reader₀ reader known₀ known before now (Err e)
     unfolding AnswersFound EndsInput ReadsFor

@@ -2,10 +2,7 @@
 use mathlib.Core.Path.{◌≡◌, refl, sym, ◌∙◌, ap, subst}
 use mathlib.Core.List.{List}
 use Prim.Native.Nat.{ℕ}
-use Rattle.resolved_sort.specs.Rows.{Checked}
-use Rattle.inference.specs.declared.Outputs.{Outputs}
 use Rattle.std.specs.Prelude.{Ok, Err}
-use Rattle.inference.specs.declared.Verdict.{Verdict}
 use Rattle.inference.specs.declared.Verdict.TheVariants.{NoTyping, Ambiguous, Typing}
 use Rattle.inference.specs.SolveChecks.{Call}
 use Rattle.inference.specs.SolveEntry.{Solved, solve_entry}
@@ -13,16 +10,10 @@ use Rattle.inference.specs.ListsLeft.{counts_told}
 use Rattle.inference.proofs.ListsLeft.{sorts_only_grow}
 use Rattle.text_out.specs.declared.Out.{Out}
 use Rattle.text_out.specs.Outs.{then_put}
-use Rattle.list_call.specs.Lists.{call_count, sorts_in, typing_in, measure_in, choices_in, call_on}
+use Rattle.list_call.specs.Lists.{sorts_in, typing_in, measure_in, choices_in, call_on}
 use Rattle.list_solve.specs.Inner.Asked.{ListAnswer, list_answer, list_answer_of}
-use Rattle.list_answers.specs.Answer.{told_text, answer_text}
+use Rattle.list_answers.specs.Answer.{answer_text}
 use Rattle.list_answers.specs.Inner.Answer.{Tellable, told_of}
-
-pub checked_to_tell : (r : Solved) (ss : List ℕ) → Tellable r ss → (o : Outputs) → r ≡ Ok (Typing o) → Checked ss o.counts.sorts o.counts.entries
-checked_to_tell r ss t o e = subst (λ (a : Solved). Tellable a ss) e t
-
-pub verdict_tellable : (r : Solved) (ss : List ℕ) → Tellable r ss → (v : Verdict) → r ≡ Ok v → Tellable (Ok v) ss
-verdict_tellable r ss t v e = subst (λ (a : Solved). Tellable a ss) e t
 
 -- What a call leaves can be told: after a typing the sorts are checked.
 pub left_tellable : (I : Call) → Tellable (solve_entry I).answer (solve_entry I).sorts
@@ -38,14 +29,6 @@ left_tellable I = go (solve_entry I).answer refl
 module _ (I : Call) (r : Solved) (ss ts ms cs : List ℕ) (e : list_answer r ss ts ms cs ≡ list_answer_of (solve_entry I)) where
   pub answer_tellable : Tellable r ss
   answer_tellable = subst (λ (A : ListAnswer). Tellable A.answer A.sorts) (sym e) (left_tellable I)
-
-  pub asked_and_told :
-      (ws : List ℕ) (out left : Out) (g x : ℕ) → g ≡ call_count ws 0 → x ≡ call_count ws 5
-      → left ≡ then_put out (told_text g x r ss ts ms cs) → left ≡ told_of ws out (solve_entry I)
-  asked_and_told ws out left g x eg ex p =
-      p
-      ∙ (λ i. then_put out (told_text (eg i) (ex i) (e i).answer (e i).sorts (e i).typing (e i).measure
-      (e i).choices))
 
 -- the slices that are told, as the list lends them
 pub all_lent :

@@ -2,7 +2,6 @@
 use mathlib.Core.Path.{◌≡◌, sym, ◌∙◌, ap}
 use mathlib.Core.List.{List}
 use Prim.Native.Nat.{ℕ, ◌+◌, ◌-◌, ◌*◌, ◌≤◌}
-use native.Mathlib.Nat.{mul-le-mul}
 use native.Mathlib.Omega.{arith}
 use lib.ListN.{length, take, drop}
 use lib.Seq.{length-take-le, take-take}
@@ -10,9 +9,6 @@ use Rattle.words.specs.Words.{part}
 use Rattle.problem_words.proofs.Wholes.{part_length}
 use Rattle.list_call.specs.Lists.{length_lent, slice_lent}
 use Rattle.list_memory.specs.Memory.{rows_given}
-
-pub few_words : (width rows : ℕ) → width ≤ 5 → rows ≤ 65535 → width * rows ≤ 327675
-few_words width rows h k = mul-le-mul h k
 
 module _ (ws : List ℕ) where
   -- a part from `start` on, as long as lent

@@ -28,9 +28,9 @@ use Rattle.text_out.specs.Put.{Put}
 use Rattle.text_out.proofs.Outs.{a_digit}
 use Rattle.pair_line.specs.declared.Gathered.{Gathered}
 use Rattle.pair_line.specs.declared.Gathered.TheVariants.{Pair, Alone}
-use Rattle.pair_line.specs.PairProgram.{small_decimal, answer, Line, good, wrong, read, line_of, with_first, with_second, single, pair}
-use Rattle.pair_line.specs.Room.{line_room, OfLine, Begun}
-use Rattle.pair_line.specs.Inner.Room.{LineStored, BadPut, BothRead}
+use Rattle.pair_line.specs.PairProgram.{small_decimal, answer, good, wrong, read, line_of, with_first, with_second, single, pair}
+use Rattle.pair_line.specs.Room.{line_room, Begun}
+use Rattle.pair_line.specs.Inner.Room.{LineStored, BadPut}
 use Rattle.pair_line.specs.Inner.Answers.{wrong_text, length_check}
 use Rattle.pair_line.specs.Answers.{with_lf, printed, output_left}
 use Rattle.pair_line.proofs.PairLength.{pair_length, single_length}
@@ -101,10 +101,6 @@ module _ (ws : List ℕ) (first second : List ℕ) (b : Begun ws 6 0 0) (o : Out
   first_bad h = h.put ∙ sym (ap (λ l. then_put o (with_first l (line_of second))) h.is_wrong)
 
   module _ {vs : List ℕ} {m d a : ℕ} (f : LineStored ws 6 0 first vs m d a) {p : Out} (i : p ≡ o) where
-    pub begun_second : Begun vs m d 200
-    begun_second =
-        record { checked = f.grown.checked; six = f.six; sorts = omega (arith, f.grown.sorts); entries = omega (arith, f.grown.entries) }
-
     pub second_bad : {q : Out} → BadPut second p q → q ≡ then_put o (pair first second)
     unfolding pair
     second_bad h =
@@ -115,15 +111,6 @@ module _ (ws : List ℕ) (first second : List ℕ) (b : Begun ws 6 0 0) (o : Out
     module _ {us : List ℕ} {l c x : ℕ} (g : LineStored vs m d second us l c x) {q : Out} (j : q ≡ p) where
       same : tree_at us l a ≡ tree_at vs m a
       same = g.grown.same a f.below
-
-      pub both_read : BothRead us l c a x
-      both_read =
-          record {
-            asked = record { checked = g.grown.checked; lhs = omega (arith, f.below, g.grown.longer); rhs = g.below };
-            of_line = subst OfLine (sym same) f.of_line;
-            sorts = omega (arith, f.grown.sorts, g.grown.sorts);
-            entries = omega (arith, f.grown.entries, g.grown.entries);
-          }
 
       pub both_put : {r : Out} → r ≡ then_put q (answer (tree_at us l a) (tree_at us l x)) → r ≡ then_put o (pair first second)
       unfolding pair

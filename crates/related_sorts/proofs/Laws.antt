@@ -1,5 +1,5 @@
 -- What the definition makes, as the code meets it. Assumes nothing.
-use mathlib.Core.Path.{◌≡◌, refl, ap, ap₂, sym, ◌∙◌, subst}
+use mathlib.Core.Path.{◌≡◌, refl, ap, sym, ◌∙◌, subst}
 use mathlib.Core.List.{List, [], ◌∷◌, ◌++◌, append_assoc, append-nil}
 use mathlib.Core.Option.{Option, none, some}
 use mathlib.Core.Bool.{Bool, true, false, cond}
@@ -7,7 +7,7 @@ use Prim.Native.Nat.{ℕ, suc, ◌+◌, ◌<◌, ◌≤◌}
 use native.Mathlib.Omega.{arith}
 use native.Mathlib.Numerals.{add-one}
 use lib.ListN.{length, get_or, set, take, drop, length-set, drop_of_length-le}
-use lib.Seq.{sets, take-suc, take-suc-set, take-length, drop-cons, get_or-take, get_or-set_other, length-take-le}
+use lib.Seq.{sets, take-suc-set, take-length, drop-cons, get_or-take, get_or-set_other, length-take-le}
 use lib.Dec.{eqb}
 use borrow.Author.Tests.{lt-ltb, le-ltb, le-leb, lt-leb}
 use Rattle.resolved_sort.specs.declared.ComplexSort.{ComplexSort}
@@ -82,16 +82,6 @@ module _ (ws ns : List ℕ) (k : Lengths) (kind part : ℕ) (args : List ℕ) wh
         })))
         (e₂ ∙ ap (λ (xs : List ℕ). sets xs (node_entries_at + k.arguments) args) (e₁ ∙ ap (λ (s : ℕ). put_row ns k.nodes kind part s (length args)) es)))
 
--- the parts of a place, one after another
-pub one_more_part : (ps ids : List ℕ) (i : ℕ) → i < length ids → i < length ps → take i ids ≡ take i ps → (x : ℕ)
-    → x ≡ get_or ps i 0 → take (i + 1) (set ids i x) ≡ take (i + 1) ps
-one_more_part ps ids i l m e x y =
-    ap (λ (j : ℕ). take j (set ids i x)) (add-one i)
-    ∙ (take-suc-set ids i x l ∙ (ap₂ (λ (xs : List ℕ) (z : ℕ). xs ++ (z ∷ [])) e y ∙ (sym (take-suc ps i 0 m) ∙ ap (λ (j : ℕ). take j ps) (sym (add-one i)))))
-
-pub parts_stored : (ps ids : List ℕ) (i n : ℕ) → i ≡ n → take i ids ≡ take i ps → take n ids ≡ take n ps
-parts_stored ps ids i n e x = subst (λ (j : ℕ). take j ids ≡ take j ps) e x
-
 -- an answer that is an error
 pub same_err : {A : Type 0} (r : Result A Full) (x : Full) → IsErr r × IsErrAnd r (λ e. e ≡ x) → r ≡ Err x
 same_err (Ok y) x i = absurd (true_not_false false i.0 refl)
@@ -139,20 +129,6 @@ pub record Over (xs : List ℕ) (rs : Listed) (W₀ : Lent) (ids : List InferSor
   pub same : push_functions xs (places rs) W₀ ≡ (push_functions xs (drop i (places rs)) W and-then before (take i (numbers ids)))
 
 module _ (xs : List ℕ) (rs : Listed) (long : length rs.ids ≡ 3) (W₀ : Lent) where
-  keep_all : (O : Makes (List ℕ)) → O ≡ (O and-then before [])
-  keep_all (made ps W) = refl
-  keep_all (no_list W) = refl
-  keep_all (no_room c W) = refl
-
-  pub over_begins : Over xs rs W₀ (take rs.count rs.ids) W₀ 0
-  over_begins =
-      record {
-        within = omega arith;
-        long = length-take-le rs.count rs.ids (omega (arith, rs.few, long));
-        unread = λ j l h. get_or-take rs.count rs.ids j (record { 0 = 0 }) h;
-        same = keep_all (push_functions xs (places rs) W₀);
-      }
-
   module _ (ids : List InferSortId) (W : Lent) (i : ℕ) (g : Over xs rs W₀ ids W i) where
     many : length (places rs) ≡ rs.count
     many = length-take-le rs.count (numbers rs.ids) (omega (arith, rs.few, length_numbers rs.ids, long))

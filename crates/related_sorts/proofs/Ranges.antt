@@ -316,9 +316,6 @@ pub record Rising (fs : List ℕ) (count : ℕ) (O₀ : Makes (List ℕ)) (left 
   pub within : left ≤ count
 
 module _ (fs : List ℕ) (count : ℕ) (O₀ : Makes (List ℕ)) where
-  pub rise_begins : AllStand fs count O₀ → Rising fs count O₀ count O₀
-  rise_begins s = record { stand = s; same = refl; within = omega arith }
-
   module _ (left : ℕ) (O : Makes (List ℕ)) (s : Rising fs count O₀ left O) where
     pub risen : left ≡ 0 → O ≡ outwards fs count O₀
     unfolding outwards

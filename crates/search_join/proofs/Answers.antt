@@ -67,11 +67,6 @@ module _ (ws ns : List ℕ) (k : Lengths) (K : Counts) (eK : K ≡ record { sort
       unfolding join_in
       join_ends x z y = ends (bound_at true ws k.sorts k.entries a b) same_bound x y z
 
--- the head of a distance, where there is one
-pub head_is : (o : Maybe Steps) (d : StepsAnswer) (r : Option StepsAnswer) → r ≡ steps_of o → r ≡ Is d → d.head ≡ head_steps o
-head_is none d r e z = no_confusion (cc)
-head_is (some x) d r e z = cc
-
 pub no_head : (o : Maybe Steps) (r : Option StepsAnswer) → r ≡ steps_of o → r ≡ Nothing → 0 ≡ head_steps o
 no_head none r e z = refl
 no_head (some d) r e z = no_confusion (cc)

@@ -82,9 +82,6 @@ module _ (ns bs ls : List ℕ) (d : SortId) (n : ℕ) (ws₀ sc₀ : List ℕ) (
   default : d.0 < k.sorts
   default = omega (arith, G.entered.default, G.only.grows.sorts)
 
-  pub sorts_long : length ws ≡ length ws₀
-  sorts_long = G.only.grows.as_long.0
-
   pub scratch_long : length sc ≡ length sc₀
   scratch_long = G.changed.long
 

@@ -402,15 +402,9 @@ module _ (ls : List ℕ) (z : Sizes) (ws ns bs sc : List ℕ) (k : State) (e : B
     pub push_room : (e.measure + added_components s ≤ 256) × (e.choices + added_choices s ≤ 256)
     push_room = room
 
-    pub undo_room : (d : ℕ) → trail_after e.trail t ≡ d → (sc₃ : List ℕ) → length sc₃ ≡ length sc → (e.trail ≤ d) × (d ≤ length sc₃)
-    undo_room d q sc₃ l = let x = on_the_trail U bs₁ sc₁ t u in (omega (arith, x.0, q), omega (arith, x.1, q, l, S.long))
-
   -- nothing made equal, and on with a step
   nothing_bound : TriesPairs ws ns k.lengths (yes_with (binds_of bs k.lengths.variables)) bs sc e.trail bs sc (Some e.trail)
   nothing_bound = record { tries = binds_nothing ws ns k.lengths bs (take trail_words sc) e.trail S.ready; rest = refl; long = refl }
-
-  pub goes_with : (sc₂ : List ℕ) (e₂ : Branch) → sc₂ ≡ step_words s e sc → e₂ ≡ branch_after e e.trail s → Searching ws ns bs sc₂ ls z k e₂ 0 [] next
-  goes_with sc₂ e₂ = goes_on (yes_with (binds_of bs k.lengths.variables)) bs sc (Some e.trail) nothing_bound e.trail refl sc₂ e₂
 
   pub went_with : (sc₂ : List ℕ) (e₂ : Branch) → sc₂ ≡ step_words s e sc → e₂ ≡ branch_after e e.trail s → (ws₃ ns₃ bs₃ sc₃ : List ℕ) (r : Answer)
       → Comes ls z ws ns bs sc₂ k e₂ (next_of ls z next) ws₃ ns₃ bs₃ sc₃ r

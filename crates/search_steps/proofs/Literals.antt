@@ -113,10 +113,6 @@ module _ (k : LitKind) (s : Sort) (r : Answer ℕ) (e : r ≡ generality s) wher
   pub zero_is_not_pos : r ≡ Some 0 → k ≡ Natural → Other ≡ lit_number (lit_component k s)
   zero_is_not_pos q i = ap (λ (x : LitKind). lit_of x (Some 0)) (sym i) ∙ lit_by (Some 0) q
 
--- by a row
-pub number_row : (kind : LitKind) (r : ResolvedSort) (s : Sort) → r ≡ Primitive s → (x : LitAt) → x ≡ lit_number (lit_component kind s) → x ≡ lit_row kind r
-number_row kind r s e x y = y ∙ sym (ap (lit_row kind) e)
-
 pub other_row : (kind : LitKind) (r : ResolvedSort) → ((s : Sort) → r ≡ Primitive s → ⊥) → Other ≡ lit_row kind r
 other_row kind UnitRow n = refl
 other_row kind (Primitive s) n = absurd (n s refl)

@@ -23,7 +23,7 @@ use Rattle.search_state.specs.declared.Pairs.TheVariants.{One, Two}
 use Rattle.search_state.specs.declared.Step.{Step}
 use Rattle.search_state.specs.declared.Step.TheVariants.{Nothing, Component, Written, Choice}
 use Rattle.search_state.specs.Inner.Memory.{trail_words, measure_at, choices_at, scratch_used}
-use Rattle.search_state.specs.Inner.Leaves.{unify_pairs, trail_after, is_made, TriesPairs, step_words, added_components, branch_after}
+use Rattle.search_state.specs.Inner.Leaves.{unify_pairs, trail_after, is_made, TriesPairs, step_words, branch_after}
 
 front : (sc ts : List ℕ) → length ts ≡ trail_words → take trail_words (ts ++ drop trail_words sc) ≡ ts
 front sc ts l = take-append-le trail_words ts (drop trail_words sc) (omega (arith, l)) ∙ take_all trail_words ts (omega (arith, l))
@@ -120,10 +120,6 @@ module _ (sc : List ℕ) (e : Branch) (t : ℕ) (s : Step) where
       (record { trail = t; measure = e.measure; choices = e.choices + 1 })
   unfolding step_words
   pushes_choice i q = rw q (refl, refl)
-
--- the room that a step asks for, by its kind
-pub written_room : (e : Branch) (s : Step) (n : ℕ) → s ≡ Written n → e.measure + added_components s ≤ 256 → e.measure + n ≤ 256
-written_room e s n q l = rw q at l
 
 -- the words that the unifier held are those that were lent
 pub leaves_moved : (us vs : List ℕ) → vs ≡ us → (ts₁ ts₂ : List ℕ) → ts₂ ≡ ts₁ → (ws ns : List ℕ) (k : Lengths) (U : Unifies) (bs ts : List ℕ)

@@ -17,7 +17,7 @@ use Rattle.inference.specs.declared.ExprId.{ExprId}
 use Rattle.inference.specs.Constraints.{max_exprs, rows_from}
 use Rattle.inference.specs.SolveChecks.{disjunction_for, disjunctions, among, no_two}
 use Rattle.solve_checks.specs.Inner.Marks.{Marked, marked, mark_of, disjunction_expr, expr_before, exprs_for, IsExpr, EachIsExpr}
-use Rattle.solve_checks.proofs.RowsLeft.{left, all_left, one_left, none_left}
+use Rattle.solve_checks.proofs.RowsLeft.{left, one_left, none_left}
 use Rattle.unification.proofs.Settles.{none_at_first}
 
 unfoldable pub fresh_from : List Bool → List ℕ → Bool
@@ -125,9 +125,6 @@ module _ (row : ℕ → Option ExprId) (n : ℕ) where
 
   abbrev pub ExprsMarked : List Bool → ℕ → Type 0
   ExprsMarked seen i = (i ≤ n) × Marking exprs seen (exprs_left i)
-
-  pub none_marked_yet : ExprsMarked (replicate max_exprs false) 0
-  none_marked_yet = (omega arith, begin exprs (exprs_left 0) (ap exprs_for (all_left row n)))
 
   module _ (seen : List Bool) (i : ℕ) (p : ExprsMarked seen i) where
     module _ (l : i < n) where

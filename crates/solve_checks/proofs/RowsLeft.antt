@@ -34,9 +34,6 @@ module _ (f : List Constraint → ℕ) (a : Constraint → ℕ) (empty : f [] �
     pub within : i ≤ n
     pub left_over : sum + f (left row n i) ≡ f (rows_from row 0 n)
 
-  pub nothing_summed : Summed 0 0
-  nothing_summed = record { within = omega arith; left_over = omega (arith, ap f (all_left row n)) }
-
   module _ (i sum : ℕ) (p : Summed i sum) where
     pub one_summed : i < n → (c : Constraint) → c ≡ row i → (x : ℕ) → x ≡ a c → Summed (i + 1) (sum + x)
     one_summed l c e x y =
@@ -52,9 +49,6 @@ module _ (a : Constraint → ℕ) (row : ℕ → Constraint) (n : ℕ) where
 
   abbrev pub SummedBy : ℕ → ℕ → Type 0
   SummedBy = Summed (sum_by a) a refl sum_more row n
-
-  pub summed_none : SummedBy 0 0
-  summed_none = nothing_summed (sum_by a) a refl sum_more row n
 
   pub summed_more : (i sum : ℕ) → SummedBy i sum → i < n → (c : Constraint) → c ≡ row i → (x : ℕ) → x ≡ a c → SummedBy (i + 1) (sum + x)
   summed_more = one_summed (sum_by a) a refl sum_more row n

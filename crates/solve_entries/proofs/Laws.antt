@@ -4,7 +4,6 @@ use mathlib.Core.Path.{◌≡◌, refl, sym, ap, ◌∙◌, subst}
 use mathlib.Core.Bool.{Bool}
 use mathlib.Core.List.{List, []}
 use Prim.Native.Nat.{ℕ, ◌*◌, ◌≤◌}
-use native.Mathlib.Omega.{arith}
 use lib.ListN.{length}
 use Rattle.std.specs.Prelude.{Result, Ok, Err}
 use Rattle.resolved_sort.specs.declared.Refusal.{Refusal}
@@ -32,8 +31,8 @@ use Rattle.solve_outputs.specs.declared.Handout.{Handout}
 use Rattle.solve_outputs.specs.Handout.{call_with, solve_left_with}
 use Rattle.solve_outputs.specs.Inner.Begin.{CountsFit, RowsFit, sizes_of, no_incumbent, nothing_taken}
 use Rattle.solve_outputs.specs.Finish.{solve_left}
-use Rattle.solve_outputs.specs.Inner.Finish.{solve_left_by, settled_by, Handable, SortsReturnable, NodesReturnable}
-use Rattle.solve_outputs.specs.Inner.Handing.{settling, CanHandOut}
+use Rattle.solve_outputs.specs.Inner.Finish.{solve_left_by, settled_by, Handable}
+use Rattle.solve_outputs.specs.Inner.Handing.{settling}
 use Rattle.solve_outputs.specs.Packed.{SolvedWithin}
 use Rattle.solve_outputs.proofs.Codes.{entry_told}
 use Rattle.solve_outputs.proofs.Passed.{counts_fit, rows_fit, packable, packed_problem, names_whole, begins, handable}
@@ -59,22 +58,6 @@ module _ (s : Search) (S : Searching s nothing_taken 0 [] (Solve 0)) (e : Branch
     as_long (Found k) g = g.grows.as_long
     as_long (Missed k) g = g.grows.as_long
     as_long (Ended c k) g = g.as_long
-
-    pub can_finish : (h : Handout) → CanHandOut s h
-        → CanHandOut u h × SortsReturnable u.sorts.now s.lengths × NodesReturnable u.nodes.now s.lengths
-    can_finish h c =
-        let l = as_long (answer_of (state_of u) r) d.comes.grown in (
-          subst (λ (g : GivenTo). Handable u.scratch.now g.lists g.sizes h.typing.now h.measure.now h.choices.now) (sym d.problem)
-              (record {
-                sized = c.sized;
-                used = omega (arith, c.used, d.comes.path.long);
-                typing = c.typing;
-                measure = c.measure;
-                choices = c.choices;
-              }),
-          record { sorts = S.ready.nodes.sorts.sorts; entries = S.ready.nodes.sorts.entries; long = omega (arith, S.ready.nodes.sorts.long, l.0) },
-          record { nodes = S.ready.nodes.nodes; arguments = S.ready.nodes.entries; long = omega (arith, S.ready.nodes.long, l.1) },
-        )
 
     pub search_left : (names : List BaseName) (h : Handout) (L : SolveLeft)
         → L ≡ solve_left_by s.lengths u.nodes.now u.binds.now u.scratch.now (settling u names h s.lengths r)

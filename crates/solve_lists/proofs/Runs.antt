@@ -112,14 +112,6 @@ pub record Solving (xs : List ℕ) (most : ℕ) (known shown₀ shown : Option (
   pub written : Appends shown₀ shown text
   pub same : all_printed 1 ws₀ (held_lines most xs) ≡ text ++ all_printed n ws (held_lines most (left ++ rest))
 
-pub nothing_unread : (buffer : List ℕ) (r : Input) → r.at ≡ 0 → r.end ≡ 0 → unread buffer r ≡ []
-nothing_unread buffer r a e = ap (λ (k : ℕ). drop r.at (take k buffer)) e ∙ ap (λ (k : ℕ). drop k []) a
-
-pub none_solved : (xs : List ℕ) (most : ℕ) (known shown : Option (List ℕ)) (ws left : List ℕ) → left ≡ [] → known ≡ Some xs
-    → Solving xs most known shown shown ws ws left 1
-none_solved xs most known shown ws left z e =
-    record { rest = xs; is = e; text = []; written = nothing_shown shown; same = ap (λ u. all_printed 1 ws (held_lines most (u ++ xs))) (sym z) }
-
 pub moved : (xs : List ℕ) (most most' : ℕ) (known shown₀ shown : Option (List ℕ)) (ws₀ ws ws' left : List ℕ) (n n' : ℕ)
     → Solving xs most known shown₀ shown ws₀ ws left n → most ≡ most' → ws ≡ ws' → n ≡ n'
     → Solving xs most' known shown₀ shown ws₀ ws' left n'

@@ -5,9 +5,6 @@ use Prim.Native.Nat.{ℕ, suc, ◌+◌, ◌-◌, ◌*◌, ◌<◌, ◌≤◌}
 use native.Mathlib.Omega.{arith}
 use lib.ListN.{length, set, length-set}
 use lib.Seq.{sets}
-use Rattle.resolved_sort.specs.declared.Run.{Run}
-use Rattle.unification.specs.declared.InferSortId.{InferSortId}
-use Rattle.inference.specs.declared.ExprId.{ExprId}
 use Rattle.inference.specs.declared.Constraint.{Constraint}
 use Rattle.inference.specs.declared.Constraint.TheVariants.{Sub, Lit, Disjunction, Comprehension, Join}
 use Rattle.inference.specs.Constraints.{max_constraints, constraint_at, rows_from}
@@ -21,13 +18,6 @@ use Rattle.search_state.specs.Inner.Searching.{Sized}
 use Rattle.words.proofs.Parts.{part_first}
 use Rattle.solve_outputs.specs.Inner.Written.{Walked, walked, position_at, choice_by}
 use Rattle.solve_outputs.proofs.Over.{stored_is_over}
-
--- the row of one choice
-pub choice_put : (sc ch : List ℕ) (c : Constraint) (k : ℕ) (x : ExprId) (p : InferSortId) (run : Run) → c ≡ Disjunction x p run
-    → (ws vs : List ℕ) (i : ℕ) → ws ≡ set ch (2 * k) x.0 → i ≡ position_at sc k → vs ≡ set ws (2 * k + 1) i → walked vs (k + 1) ≡ choice_by sc c ch k
-unfolding choice_by
-choice_put sc ch c k x p run e ws vs i a b d =
-    ap (λ us. walked us (k + 1)) (d ∙ λ j. set (a j) (2 * k + 1) (b j)) ∙ ap (λ c. choice_by sc c ch k) (sym e)
 
 -- the rows of choices for constraints, after k choices of d
 abbrev pub rows_after : List ℕ → ℕ → List Constraint → ℕ → List ℕ
@@ -109,9 +99,6 @@ module _ (sc old ls : List ℕ) (n : ℕ) where
     pub choosing : Choosing sc old total whole (rest i) ch k
 
   module _ (ch : List ℕ) (k i : ℕ) (p : ChoicesLeft ch k i) where
-    pub choices_few : k ≤ max_constraints
-    choices_few = omega (arith, p.few, p.choosing.count)
-
     pub choices_go_on : i < n → (c : Constraint) → c ≡ constraint_at ls i → (ch' : List ℕ) (k' : ℕ)
         → walked ch' k' ≡ choice_by sc c ch k → ChoicesLeft ch' k' (i + 1)
     choices_go_on l c e ch' k' y =

@@ -24,7 +24,7 @@ use Rattle.search_state.specs.declared.Incumbent.{Incumbent}
 use Rattle.search_state.specs.declared.Search.{Search}
 use Rattle.search_state.specs.Inner.Leaves.{code_of}
 use Rattle.search_state.specs.Inner.Memory.{problem_in, chosen_exprs, choices_of, best_sorts_at, best_measure_at, best_choices_at, candidate_of, best_of}
-use Rattle.search_state.specs.Inner.Solving.{Stays, OnlySorts, SameProblem}
+use Rattle.search_state.specs.Inner.Solving.{OnlySorts}
 use Rattle.solve_outputs.specs.Handout.{solve_left_with}
 use Rattle.words.specs.Words.{part}
 use Rattle.words.proofs.Parts.{length_part}
@@ -139,15 +139,3 @@ module _ (s m u : Search) (names : List BaseName) (h h' : Handout) (k : Lengths)
   all_left e =
       (λ i. solve_left_with a (t.0 i).now (t.1 i).now (t.2 i).now (t.3 i).now h')
       ∙ (λ i. solve_left_by k (only i).nodes (only i).kept.binds (only i).scratch (e i))
-
-  pub problem_stays : SameProblem s u
-  problem_stays =
-      (λ i. record {
-        lists = (t.4 i).now;
-        sizes = t.5 i;
-        sorts = (t.0 i).ghost_name;
-        nodes = (t.1 i).ghost_name;
-        binds = (t.2 i).ghost_name;
-        scratch = (t.3 i).ghost_name;
-      })
-      ∙ ap (λ (y : Stays). y.kept.given) only

@@ -11,17 +11,15 @@ use lib.Dec.{ltb}
 use lib.Seq.{sets, get_or-drop}
 use borrow.Author.Tests.{lt-ltb, le-ltb}
 use Rattle.resolved_sort.specs.declared.Run.{Run}
-use Rattle.unification.specs.declared.InferSortId.{InferSortId}
 use Rattle.inference.specs.declared.NameTarget.{NameTarget}
 use Rattle.inference.specs.declared.NameTarget.TheVariants.{Variable}
 use Rattle.inference.specs.declared.Overload.{Overload}
-use Rattle.inference.specs.declared.ExprId.{ExprId}
 use Rattle.inference.specs.declared.Constraint.{Constraint}
 use Rattle.inference.specs.declared.Constraint.TheVariants.{Sub, Lit, Disjunction, Comprehension, Join}
 use Rattle.inference.specs.Constraints.{max_constraints, target, constraint_at, overload_at, base_name_at, rows_from}
 use Rattle.inference.specs.Names.{overload_in, name_kind, name_sort}
 use Rattle.inference.specs.SolveChecks.{disjunction_for, disjunctions}
-use Rattle.inference.proofs.Members.{row_at_lem, row_past, rows_all_left, rows_one_left, rows_none_left}
+use Rattle.inference.proofs.Members.{row_at_lem, row_past, rows_one_left, rows_none_left}
 use Rattle.search_state.specs.declared.Sizes.{Sizes}
 use Rattle.search_state.specs.Inner.Memory.{overloads_at, problem_in, rest_from, best_sorts_at}
 use Rattle.words.specs.Words.{part}
@@ -65,32 +63,12 @@ module _ (ls : List ℕ) (n : ℕ) (run : Run) (i : ℕ) where
       let q = b ∙ (ap (λ j. get_or ls j 0) (omega arith) ∙ sym (get_or-drop overloads_at ls (3 * (run.start + i) + 1) 0)) in
       (c ∙ λ j. target (p j) (q j)) ∙ sym (ap (λ (o : Overload). o.target) (row_at_lem (overload_at (drop overloads_at ls)) _ n (run.start + i) l))
 
--- a disjunction has a choice
-pub one_at_least : (c : Constraint) (k : ℕ) (x : ExprId) (p : InferSortId) (run : Run) → c ≡ Disjunction x p run → length (disjunction_for c []) ≤ k → 1 ≤ k
-one_at_least c k x p run e h = subst (λ c. length (disjunction_for c []) ≤ k) e h
-
--- the name that the last of k choices gives
-pub name_by : (n : ℕ) (os : List Overload) (sc ts : List ℕ) (c : Constraint) (k : ℕ) (x : ExprId) (p : InferSortId) (run : Run) → c ≡ Disjunction x p run
-    → (i : ℕ) (t : NameTarget) (ws : List ℕ) → i ≡ position_at sc (k - 1) → t ≡ (overload_in os run i).target → ws ≡ named n ts x.0 t
-    → walked ws (k - 1) ≡ name_by_of n os sc c ts k
-unfolding name_by_of
-name_by n os sc ts c k x p run e i t ws a b d =
-    ap (λ us. walked us (k - 1)) (d ∙ ap (named n ts x.0) (b ∙ ap (λ j. (overload_in os run j).target) a)) ∙ ap (λ c. name_by_of n os sc c ts k) (sym e)
-
 -- The loop over the sorts of n expressions: those from the x-th on are left.
 module _ (sc old : List ℕ) (n : ℕ) where
   pub record SortsLeft (ts : List ℕ) (x : ℕ) : Type 0 where
     pub within : x ≤ n
     pub long : length ts ≡ length old
     pub left : sets old 0 (named_rows no_name 0 (part best_sorts_at n sc)) ≡ sets ts (3 * x) (named_rows no_name x (part (best_sorts_at + x) (n - x) sc))
-
-  pub sorts_begin : SortsLeft old 0
-  sorts_begin =
-      record {
-        within = omega arith;
-        long = refl;
-        left = ap (λ m. sets old 0 (named_rows no_name 0 (part best_sorts_at m sc))) (let z : n ≡ n - 0 = omega arith in z);
-      }
 
   module _ (ts : List ℕ) (x : ℕ) (p : SortsLeft ts x) where
     pub sorts_go_on : best_sorts_at + n ≤ length sc → x < n → (s : ℕ) (us vs ws : List ℕ) → s ≡ get_or sc (best_sorts_at + x) 0
@@ -147,12 +125,6 @@ module _ (names old : List ℕ) (n m : ℕ) where
               (base_name_at names (i - 1)).key (base_name_at names (i - 1)).target) (sym j)
               ∙ ap (λ bs. base_named n bs old) (sym (rows_one_left (base_name_at names) m (i - 1) (omega (arith, l, p.within))))));
         }
-
-    pub base_end : i ≤ 0 → ts ≡ base_named n (rows_from (base_name_at names) 0 m) old
-    base_end l =
-        p.done
-        ∙ (ap (λ j. base_named n (rows_from (base_name_at names) j (m - j)) old) (let z : i ≡ 0 = omega (arith, l) in z) ∙
-        ap (λ bs. base_named n bs old) (rows_all_left (base_name_at names) m))
 
 -- how many choices constraints have
 pub choices_more : (c : Constraint) (cs : List Constraint) → length (disjunctions (c ∷ cs)) ≡ length (disjunction_for c []) + length (disjunctions cs)

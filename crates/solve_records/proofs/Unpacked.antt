@@ -58,9 +58,6 @@ module _ (os : List OverloadRecord) where
     pub within : i ≤ min max_overloads (length os)
     pub left : unpacked os ≡ sets ws (3 * i) (words_from i os)
 
-  pub records_begin : RecordsLeft (replicate 3072 0) 0
-  records_begin = record { within = omega arith; left = refl }
-
   module _ (ws : List ℕ) (i : ℕ) (p : RecordsLeft ws i) where
     pub records_go_on : i < min max_overloads (length os) → (us : List ℕ) → us ≡ sets ws (3 * i) (words_of (record_at os i)) → RecordsLeft us (i + 1)
     records_go_on l us q =

@@ -73,9 +73,6 @@ module _ (s₀ : Search) (e : Branch) (t : Tries) (next : Next) where
     pub fine : TriesFine (lent_of s) t j
     pub whole : (u : Search) (r : Result Bool Full) → LeftTo s₀ e (tries_of j) s u r → LeftTo s₀ e (tries_of 0) s₀ u r
 
-  pub tries_begin : Searching s₀ e 1 [] next → TriesFine (lent_of s₀) t 0 → TriesLeft s₀ 0
-  tries_begin a f = record { same = refl; asked = a; fine = f; whole = λ u r d. d }
-
   module _ (s : Search) (j : ℕ) (I : TriesLeft s j) where
     pub tries_over : t.count ≤ j → Comes s₀ e (tries_of 0) s (Ok false)
     tries_over l =
@@ -138,10 +135,6 @@ module _ (s₀ : Search) (e : Branch) (body node : InferSortId) (element : SortI
     pub asked : AskedIn s₀ s e 0 [] next
     pub places : Placed s.lengths body.0 × Placed s.lengths node.0 × (element.0 < s.lengths.sorts)
     pub whole : (u : Search) (r : Result Bool Full) → LeftTo s₀ e (readings_of i b) s u r → LeftTo s₀ e (readings_of 0 false) s₀ u r
-
-  pub readings_begin : Searching s₀ e 0 [] next → Placed s₀.lengths body.0 × Placed s₀.lengths node.0 × (element.0 < s₀.lengths.sorts)
-      → ReadingsLeft s₀ 0 false
-  readings_begin a p = record { same = refl; asked = a; places = p; whole = λ u r d. d }
 
   module _ (s : Search) (i : ℕ) (b : Bool) (I : ReadingsLeft s i b) where
     pub readings_over : 3 ≤ i → Comes s₀ e (readings_of 0 false) s (Ok b)

@@ -2,11 +2,11 @@
 use mathlib.Core.Path.{◌≡◌, sym, ap, ap₂, ◌∙◌}
 use mathlib.Core.Bool.{Bool, true, false, cond, and-false}
 use mathlib.Core.List.{List, []}
-use Prim.Native.Nat.{ℕ, ◌+◌, ◌*◌, ◌<◌, ◌≤◌}
+use Prim.Native.Nat.{ℕ, ◌+◌, ◌*◌}
 use lib.ListN.{get_or}
 use lib.Dec.{eqb}
-use borrow.Author.Tests.{lt-ltb, le-ltb, eq-eqb, ne_eqb}
-use Rattle.resolved_sort.specs.Storage.{part_at, start_at, count_at, entries_of, Row, words_at}
+use borrow.Author.Tests.{eq-eqb, ne_eqb}
+use Rattle.resolved_sort.specs.Storage.{start_at, count_at, entries_of, Row, words_at}
 use Rattle.resolved_sort.specs.Rows.{same_words, same_row}
 use Rattle.resolved_sort.specs.declared.Run.{Run}
 use Rattle.sort_interner.specs.Inner.Tests.{run_words, RunAt}
@@ -18,12 +18,6 @@ abbrev run : ℕ → ℕ → Run
 run s n = record { start = s; count = n }
 
 module _ (ws : List ℕ) (i k : ℕ) (e : k ≡ (words_at ws i).kind) where
-  pub part_is_zero : k < 6 → 0 ≡ (words_at ws i).part
-  part_is_zero h = ap (λ t. cond t 0 (part_at ws i)) (sym (rw e at (lt-ltb k 6 h)))
-
-  pub part_is_word : 6 ≤ k → (p : ℕ) → p ≡ get_or ws (4 * i + 1) 0 → p ≡ (words_at ws i).part
-  part_is_word h p q = q ∙ ap (λ t. cond t 0 (part_at ws i)) (sym (rw e at (le-ltb k 6 h)))
-
   run_is_entries : k ≡ 11 → (s n : ℕ) → s ≡ get_or ws (4 * i + 2) 0 → n ≡ get_or ws (4 * i + 3) 0 → entries_of ws s n ≡ (words_at ws i).args
   run_is_entries h s n es en = ap₂ (entries_of ws) es en ∙ ap (λ t. cond t (entries_of ws (start_at ws i) (count_at ws i)) []) (sym (rw e at (eq-eqb k 11 h)))
 

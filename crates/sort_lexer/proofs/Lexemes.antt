@@ -10,7 +10,7 @@ use lib.Seq.{drop-drop, drop_at, take_at}
 use lib.Dec.{eqb}
 use Rattle.sort_text.specs.Tokens.{is_letter, NextToken, end, word, open_bracket, close_bracket, hash, arrow, bad, run, past, skip, start, dash, next_at, next}
 use Rattle.sort_lexer.specs.declared.Token.{Token}
-use Rattle.sort_lexer.specs.declared.Token.TheVariants.{End, Word, Open, Close, Hash, Arrow, Bad}
+use Rattle.sort_lexer.specs.declared.Token.TheVariants.{End, Word, Open, Close, Hash, Arrow}
 use Rattle.sort_lexer.specs.declared.Lexeme.{Lexeme}
 use Rattle.sort_lexer.specs.Inner.Lexeme.{offset, lexeme, lexeme_of, said_by, said, least}
 use Rattle.sort_lexer.proofs.Places.{run_then_past, length_past, drop_place_past, left_without_spaces, skip_goes_on}
@@ -165,10 +165,6 @@ module _ (l : List ℕ) (at : ℕ) (r : Lexeme) (e : r ≡ lexeme_of l at) where
   pub next_is_arrow : r.token ≡ Arrow → next is_letter (drop at l) ≡ arrow (drop r.next l)
   unfolding said_by
   next_is_arrow = next_is Arrow
-
-  pub next_is_bad : r.token ≡ Bad → next is_letter (drop at l) ≡ bad
-  unfolding said_by
-  next_is_bad = next_is Bad
 
 -- only the end of the line is read as its end
 never_end : (q : Bool) (m n : NextToken) → (m ≡ end → ⊥) → (n ≡ end → ⊥) → cond q m n ≡ end → ⊥

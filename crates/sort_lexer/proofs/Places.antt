@@ -49,9 +49,6 @@ module _ (p : ℕ → Bool) (l : List ℕ) (i r : ℕ) (e : r ≡ offset l (past
   pub run_goes_on : i ≤ length l → i ≤ r
   run_goes_on h = omega (arith, place_past_after p l i h)
 
-  pub run_stays_within : r ≤ length l
-  run_stays_within = omega arith
-
 -- r: the first position from i on that has no space
 module _ (l : List ℕ) (i r : ℕ) (e : r ≡ offset l (skip (drop i l))) where
   pub left_without_spaces : drop r l ≡ skip (drop i l)
@@ -61,7 +58,3 @@ module _ (l : List ℕ) (i r : ℕ) (e : r ≡ offset l (skip (drop i l))) where
   pub skip_goes_on : i ≤ length l → i ≤ r
   unfolding skip
   skip_goes_on = run_goes_on (eqb 32) l i r e
-
-  pub skip_stays_within : r ≤ length l
-  unfolding skip
-  skip_stays_within = run_stays_within (eqb 32) l i r e

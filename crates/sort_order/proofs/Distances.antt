@@ -21,7 +21,7 @@ use Rattle.resolved_sort.proofs.Pairs.{Unlike, OfPrimitives, OfContainers, OfFun
 use Rattle.resolved_sort.proofs.Unlikes.{unlike_distance}
 use Rattle.resolved_sort.proofs.Reached.{no_confusion}
 use Rattle.sort_order.specs.Heads.{heads_steps}
-use Rattle.sort_order.proofs.Orders.{args_from, args_from_start, args_from_end, args_from_next}
+use Rattle.sort_order.proofs.Orders.{args_from, args_from_end, args_from_next}
 
 abbrev steps : ℕ → ℕ → StepsAnswer
 steps h i = record { head = h; interior = i }
@@ -137,9 +137,6 @@ module _ (ws : List ℕ) (n : ℕ) where
   abbrev pub StepsLeft : (s t c k i : ℕ) → Type 0
   StepsLeft s t c k i =
       added i (distances false (args_from ws n s c k) (args_from ws n t c k)) ≡ added 0 (distances false (args_at ws n s c) (args_at ws n t c))
-
-  pub steps_at_start : (s t c : ℕ) → StepsLeft s t c 0 0
-  steps_at_start s t c = ap (added 0) (ap₂ (distances false) (args_from_start ws n s c) (args_from_start ws n t c))
 
   module _ (s t c k i : ℕ) (inv : StepsLeft s t c k i) where
     steps_at_end : c ≤ k → some (stopped_sum i 0) ≡ added 0 (distances false (args_at ws n s c) (args_at ws n t c))

@@ -493,11 +493,6 @@ module _ (ws : List ℕ) (C : Counts) (ops vs : List ℕ) (K : Counts) (i : ℕ)
       top_is : id_at ids (depth - 1) ≡ id.0
       top_is = ap (id_at ids) l_is ∙ sym t.1
 
-      pub container_part : id.0 < K.sorts
-      container_part =
-          subst (λ x. x < K.sorts) top_is
-          (last_below vs K ops i ids len depth g.running h container_says.0 container_says.1 not_empty)
-
       module _ (us : List ℕ) where
         interned_is : (j : Joined) → stored_at us j ≡ intern_at vs K.sorts K.entries (container o (look (trees vs K.sorts) id.0))
             → stored_at us j ≡ intern_at vs K.sorts K.entries (container (op_of (get_or ops i 0 - 6)) (look (trees vs K.sorts) (id_at ids (depth - 1))))

@@ -264,14 +264,6 @@ mutual
       ∙ operand_text u p.0 p.1 (more us ++ x) (more_no_letter us (text r ++ rs))))
       ∙ more_text us p.2 k (snoc ts u) (omega arith) r rs e)
 
--- The text of a sort, with nothing or a closing bracket after it, is read as that sort.
-pub text_is_read : (t : Tree) → readable t ≡ true → (rs : List ℕ) → Ending rs → sort (text t ++ rs) ≡ parsed t rs
-text_is_read t h rs e = sort_text t h rs e
-
-pub operand_text_is_read : (t : Tree) → not (is_function t) ≡ true → readable t ≡ true → (rs : List ℕ)
-    → no_letter rs ≡ true → operand sort (text t ++ rs) ≡ parsed t rs
-operand_text_is_read t n h rs e = operand_text t n h rs e
-
 -- Reading the text of a sort gives that sort.
 pub line_of_text : (t : Tree) → readable t ≡ true → line (text t) ≡ parsed t []
 unfolding line ending next skip past

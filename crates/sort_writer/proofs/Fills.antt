@@ -48,19 +48,10 @@ module _ (zs ws : List ℕ) (s c : ℕ) where
       ∙ (ap₂ (λ (a b : ℕ). run_size zs (entry_at ws (s + i) ∷ entries_of ws a b)) (sym p) (sym m)
       ∙ ap (run_size zs) (sym (first_entry ws (s + i) (c - i) (λ w. omega arith))))))
 
-  pub all_arguments : (j size : ℕ) → j ≤ 0 → size ≡ run_size zs (entries_of ws (s + j) (c - j)) → size ≡ run_size zs (entries_of ws s c)
-  all_arguments j size h e =
-      let p : s + j ≡ s = omega arith in
-      let m : c - j ≡ c = omega arith in
-      e ∙ ap₂ (λ (a b : ℕ). run_size zs (entries_of ws a b)) p m
-
 -- the loop over the sorts
 pub no_sort : (ws zs : List ℕ) → zs ≡ sizes_to ws zs 0
 unfolding sizes_to
 no_sort ws zs = refl
-
-pub all_sorts : (ws zs₀ zs : List ℕ) (i n : ℕ) → zs ≡ sizes_to ws zs₀ i → i ≡ n → zs ≡ sizes_to ws zs₀ n
-all_sorts ws zs₀ zs i n e h = e ∙ ap (sizes_to ws zs₀) h
 
 pub one_sort_more : (ws zs₀ zs : List ℕ) (i size : ℕ) (row : ResolvedSort) → zs ≡ sizes_to ws zs₀ i → row ≡ row_at ws i → size ≡ row_size ws zs row
     → set zs i size ≡ sizes_to ws zs₀ (i + 1)

@@ -63,12 +63,6 @@ module _ (ws : List ℕ) (n s c : ℕ) (o : Out) where
   pub record Putting (i : ℕ) (m : Out) : Type 0 where
     pub whole : then_put m (left_text i (args_at ws n (s + i) (c - i))) ≡ then_put o (texts (args_at ws n s c))
 
-  pub none_yet : Putting 0 o
-  none_yet =
-      let z : s + 0 ≡ s = omega arith in
-      let y : c - 0 ≡ c = omega arith in
-      record { whole = ap₂ (λ (i j : ℕ). then_put o (texts (args_at ws n i j))) z y }
-
   pub all_put : (i : ℕ) (m : Out) → c ≤ i → Putting i m → m ≡ then_put o (texts (args_at ws n s c))
   all_put i m h p = sym (ap (then_put m) (none_left ws n (s + i) (c - i) i (omega arith)) ∙ then_put_nothing m) ∙ p.whole
 

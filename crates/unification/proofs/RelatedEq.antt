@@ -5,14 +5,11 @@ use mathlib.Core.Path.{◌≡◌, refl, ap, sym, ◌∙◌}
 use mathlib.Core.List.{List, [], ◌∷◌, ◌++◌}
 use mathlib.Core.Option.{some}
 use mathlib.Core.Bool.{Bool, true, false, cond}
-use Prim.Native.Nat.{ℕ, zero, suc, ◌-◌, ◌<◌, ◌≤◌}
+use Prim.Native.Nat.{ℕ, zero, suc, ◌-◌, ◌<◌}
 use native.Mathlib.Omega.{arith}
 use lib.ListN.{length, get_or, take, length-append}
-use borrow.Author.Tests.{lt-ltb, le-ltb}
-use Rattle.resolved_sort.specs.declared.ComplexSort.{ComplexSort}
 use Rattle.resolved_sort.specs.declared.ResolvedSort.{ResolvedSort}
 use Rattle.resolved_sort.specs.declared.ResolvedSort.TheVariants.{Unit as UnitRow, Primitive, Container, Function as SortFunction, Def, TypeVar}
-use Rattle.resolved_sort.specs.Tree.{Flat}
 use Rattle.resolved_sort.specs.Storage.{max_sorts, entries_of, row_at}
 use Rattle.resolved_sort.proofs.Reached.{no_confusion}
 use Rattle.unification.specs.declared.InferSort.{InferSort}
@@ -21,9 +18,8 @@ use Rattle.unification.specs.Term.{flat_head, container_head, function_head, str
 use Rattle.unification.specs.Nodes.{node_entries_of, node_at, sort_shape, node_shape, Lists, is_sort, is_place, shape_at, Binds, binds_of}
 use Rattle.unification.specs.Unify.{follow, deep}
 use Rattle.unification.specs.Checked.{Ready}
-use Rattle.unification.specs.Related.{related_container}
-use Rattle.unification.specs.Making.{Lent, graph, Makes, made, no_list, ◌and-then◌, related_over, push_functions}
-use Rattle.unification.specs.Making.{related_places, related_shape, related_end, related_to, strict_related}
+use Rattle.unification.specs.Making.{Lent, graph, Makes, ◌and-then◌, push_functions}
+use Rattle.unification.specs.Making.{related_shape, related_end, related_to, strict_related}
 use Rattle.unification.proofs.Rank.{rank, Ranked, rank_over, one_highest}
 use Rattle.unification.proofs.Enough.{follow_some, end_no_higher}
 use Rattle.unification.proofs.Parts.{one_at}
@@ -114,22 +110,6 @@ module _ (W : Lent) (bs : List ℕ) (R : Ready W.sorts W.nodes bs W.lengths) whe
   module _ (up : Bool) (p q : ℕ) (e : follow (graph W) deep bound p ≡ some q) where
     pub related_at : (s : Shape) → graph W q ≡ s → strict_related up bound p W ≡ related_shape up (strict_related up bound) (is_sort q) s W
     related_at s i = related_equation up p ∙ rw e (rw i)
-
-    pub no_list_at_variable : (v : ℕ) → graph W q ≡ variable v → strict_related up bound p W ≡ no_list W
-    no_list_at_variable v i = related_at (variable v) i
-
-    pub places_at_flat : (a : Flat) (ps : List ℕ) → graph W q ≡ over (flat_head a) ps → strict_related up bound p W ≡ made (related_places up a) W
-    places_at_flat a ps i = related_at (over (flat_head a) ps) i
-
-    -- a container
-    module _ (o : ComplexSort) (s : ℕ) (i : graph W q ≡ over (container_head o) (s ∷ [])) where
-      pub made_at_sort_container : q < max_sorts → strict_related up bound p W ≡ related_over (related_container up o) true s W
-      made_at_sort_container l = related_at (over (container_head o) (s ∷ [])) i ∙ ap (λ (b : Bool). related_over
-          (related_container up o) b s W) (lt-ltb q max_sorts l)
-
-      pub made_at_node_container : max_sorts ≤ q → strict_related up bound p W ≡ related_over (related_container up o) false s W
-      made_at_node_container l = related_at (over (container_head o) (s ∷ [])) i ∙ ap (λ (b : Bool). related_over
-          (related_container up o) b s W) (le-ltb q max_sorts l)
 
     -- a function
     module _ (n : ℕ) (ps : List ℕ) (i : graph W q ≡ over (function_head n) ps) where

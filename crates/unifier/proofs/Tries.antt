@@ -200,9 +200,6 @@ module _ (ts : List ℕ) (base count : ℕ) where
     pub upper : n ≤ count
     pub long : length left ≡ length bs
 
-  pub undo_begins : (bs : List ℕ) → base ≤ count → Undoing bs bs count
-  undo_begins bs l = record { rest = refl; lower = l; upper = omega arith; long = refl }
-
   pub undo_goes_on : (bs left : List ℕ) (n : ℕ) → Undoing bs left n → base < n → (left₁ : List ℕ)
       → left₁ ≡ set left (get_or ts (n - 1) 0) free_word → Undoing bs left₁ (n - 1)
   unfolding undo

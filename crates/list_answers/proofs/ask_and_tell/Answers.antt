@@ -4,8 +4,3 @@ use Rattle.list_answers.proofs.ask_and_tell.Goals as goal
 
 pub tell-requires : goal.tell-requires
 tell-requires c = law.answer_tellable _ _ _ _ _ _ c.ask-answer.ensures.says
-
-pub returns : goal.returns
-returns c =
-    law.asked_and_told _ _ _ _ _ _ c.ask-answer.ensures.says c.args.list.now _ _ _ _ c.count_of-given.ensures c.count_of-exprs.ensures
-    c.tell.ensures

@@ -1,16 +1,11 @@
 -- The part is as long as is lent. Assumes nothing.
-use Rattle.std.proofs.Common.{refl, arith, ◌*◌, ◌≤◌, ap, ◌∙◌}
+use Rattle.std.proofs.Common.{refl, ◌*◌, ap, ◌∙◌}
 use Rattle.list_memory.specs.declared.Layout.{Layout}
 use Rattle.list_memory.specs.Layouts.{table_number, slice_number}
 use Rattle.list_memory.specs.Memory.{rows_given}
 use Rattle.list_call.specs.Lists.{slice_lent}
 use Rattle.list_call.proofs.Lists as law
 use Rattle.list_call.proofs.lend.Goals as goal
-
-pub overflow_mul-words : goal.overflow_mul-words
-overflow_mul-words c =
-    let rows : c.rows_given.result ≤ 65535 = omega (arith, c.rows_given.type_inv) in
-    omega (arith, law.few_words c.layout-layout.result.width c.rows_given.result c.layout-layout.ensures.narrow rows)
 
 pub returns : goal.returns
 returns c =

@@ -1,13 +1,10 @@
 -- One variable more is one step of the definition. Assumes nothing.
-use Rattle.std.proofs.Common.{ap, arith, refl, length-take-le, ◌∙◌}
+use Rattle.std.proofs.Common.{ap, arith, length-take-le, ◌∙◌}
 use Rattle.std.proofs.lemmas.List.{take-append-le}
 use Rattle.unification.specs.Acyclic.{binding_settled}
 use Rattle.unification.specs.Nodes.{binding_of}
 use Rattle.node_checks.proofs.Settling as law
 use Rattle.node_checks.proofs.settle_vars.Goals as goal
-
-pub loop-x-init : goal.loop-x-init
-loop-x-init c = refl
 
 pub loop-x-preserved : goal.loop-x-preserved
 loop-x-preserved c =

@@ -11,15 +11,8 @@ sort_or_put-requires c = law.begun_first _ c.args.first.now c.args.second.now (s
 pub returns-in_default : goal.returns-in_default
 returns-in_default c = law.first_bad _ _ _ (subst (λ us. Begun us 6 0 0) (sym c.put_fixed_six.ensures) (six_begun _ (omega arith))) _ c.in_default.ensures
 
-pub sort_or_put-requires-2 : goal.sort_or_put-requires-2
-sort_or_put-requires-2 c = law.begun_second _ _ c.args.second.now (subst (λ us. Begun us 6 0 0) (sym c.put_fixed_six.ensures) (six_begun _ (omega arith))) c.args.out.now c.in-Some.ensures.0 c.in-Some.ensures.1
-
 pub returns-in_default-sort_or_put : goal.returns-in_default-sort_or_put
 returns-in_default-sort_or_put c = law.second_bad _ _ _ (subst (λ us. Begun us 6 0 0) (sym c.put_fixed_six.ensures) (six_begun _ (omega arith))) c.args.out.now c.in-Some.ensures.0 c.in-Some.ensures.1 c.in_default-sort_or_put.ensures
-
-pub put_answer-requires : goal.put_answer-requires
-put_answer-requires c =
-    law.both_read _ _ _ (subst (λ us. Begun us 6 0 0) (sym c.put_fixed_six.ensures) (six_begun _ (omega arith))) c.args.out.now c.in-Some.ensures.0 c.in-Some.ensures.1 c.in-Some-sort_or_put.ensures.0 c.in-Some-sort_or_put.ensures.1
 
 pub returns : goal.returns
 returns c =

@@ -10,9 +10,6 @@ loop-row-init c = (law.begun _ _ _ _ (ready_of _ _ _ _ c.args.bindings.now.passe
 pub bounds-functions-count : goal.bounds-functions-count
 bounds-functions-count c = omega (arith, law.room _ _ _ _ (ready_of _ _ _ _ c.args.bindings.now.passed) c.args.id.0 c.requires.0 _ _ _ _ c.loop-row.invariant.0 (law.function_told _ _ (c.is_function.ensures _ c.loop-row.invariant.2) c.loop-row-test.true), c.loop-row.invariant.1, c.requires.1)
 
-pub overflow_sub-last : goal.overflow_sub-last
-overflow_sub-last c = law.has_range _ _ _ _ (ready_of _ _ _ _ c.args.bindings.now.passed) c.args.id.0 c.requires.0 _ _ _ _ c.loop-row.invariant.0 (law.function_told _ _ (c.is_function.ensures _ c.loop-row.invariant.2) c.loop-row-test.true) _ (c.part_count-last.ensures _ c.loop-row.invariant.2)
-
 pub shallow_normalize-range-requires : goal.shallow_normalize-range-requires
 shallow_normalize-range-requires c = law.range_there _ _ _ _ (ready_of _ _ _ _ c.args.bindings.now.passed) c.args.id.0 c.requires.0 _ _ _ _ c.loop-row.invariant.0 (law.function_told _ _ (c.is_function.ensures _ c.loop-row.invariant.2) c.loop-row-test.true) _ (c.part_count-last.ensures _ c.loop-row.invariant.2) _ (c.part.ensures _ c.loop-row.invariant.2 (omega (arith, (law.range_asked _ _ _ _ (ready_of _ _ _ _ c.args.bindings.now.passed) c.args.id.0 c.requires.0 _ _ _ _ c.loop-row.invariant.0 (law.function_told _ _ (c.is_function.ensures _ c.loop-row.invariant.2) c.loop-row-test.true) _ (c.part_count-last.ensures _ c.loop-row.invariant.2)).2)))
 
@@ -28,6 +25,3 @@ loop-row-preserved c = (
   length-set c.loop-row.functions c.loop-row.count _ ∙ c.loop-row.invariant.1,
   c.row-row-in-loop-row.ensures,
 )
-
-pub returns : goal.returns
-returns c = law.final _ _ _ _ (ready_of _ _ _ _ c.args.bindings.now.passed) c.args.id.0 c.requires.0 _ _ _ _ c.loop-row.invariant.0 (law.other_told _ _ (c.is_function.ensures _ c.loop-row.invariant.2) c.loop-row-test.false)

@@ -1,10 +1,7 @@
 -- `push` meets its contract, by the kind of the step. Assumes nothing.
-use Rattle.std.proofs.Common.{refl, arith}
+use Rattle.std.proofs.Common.{refl}
 use Rattle.search_steps.proofs.Trying as law
 use Rattle.search_steps.proofs.push.Goals as goal
-
-pub overflow_add-result-in-Written : goal.overflow_add-result-in-Written
-overflow_add-result-in-Written c = omega (arith, law.written_room c.args.at _ _ c.in-Written.is c.requires.0)
 
 pub returns-in-Nothing : goal.returns-in-Nothing
 returns-in-Nothing c = let p = law.pushes_nothing _ _ _ _ c.in-Nothing.is in (p.0, p.1, (refl, refl))

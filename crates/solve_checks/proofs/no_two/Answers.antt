@@ -4,9 +4,6 @@ use Rattle.solve_checks.proofs.Fresh as fresh
 use Rattle.solve_checks.proofs.no_two.Goals as goal
 use Rattle.solve_checks.proofs.no_two.Goals.{in-Some+else-not-mark, in_default}
 
-pub loop-i-init : goal.loop-i-init
-loop-i-init g c = λ f h. fresh.none_marked_yet f c.args.count
-
 pub returns-then-not-mark : goal.returns-then-not-mark
 returns-then-not-mark g c = λ f h u.
     let l = c.loop-i in

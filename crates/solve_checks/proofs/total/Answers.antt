@@ -4,9 +4,6 @@ use Rattle.inference.specs.Constraints.{constraint_at}
 use Rattle.solve_checks.proofs.RowsLeft as rows
 use Rattle.solve_checks.proofs.total.Goals as goal
 
-pub loop-i-init : goal.loop-i-init
-loop-i-init g c = (omega arith, λ f h. rows.summed_none f (constraint_at c.args.constraints.now) c.args.count)
-
 pub loop-i-preserved : goal.loop-i-preserved
 loop-i-preserved g c = (
   omega arith,

@@ -1,11 +1,8 @@
 -- No line is taken at first, each turn takes one and prints it, and at the end all are printed. Assumes nothing.
-use Rattle.std.proofs.Common.{ℕ, List, ◌<◌, ◌≤◌, ◌≡◌, ◌∙◌, ap, subst, arith, length}
-use Rattle.std.proofs.Math.Seq.{length-take-le}
+use Rattle.std.proofs.Common.{ℕ, List, ◌<◌, ◌∙◌, ap, subst, arith, length}
 use Rattle.std.proofs.lemmas.Result.{on_ok_weaker}
 use Rattle.std.specs.Prelude.{Ok}
 use Rattle.std.specs.Io.KnownBytes.{Appends}
-use Rattle.line_input.specs.Found.{Nothing}
-use Rattle.line_input.specs.Lines.{seen}
 use Rattle.line_input.specs.Taking.{held_lines}
 use Rattle.list_memory.specs.declared.Stage.{Stage}
 use Rattle.list_reader.specs.Taking.{stage_is, line_taken}
@@ -14,26 +11,9 @@ use Rattle.solve_lists.specs.Printed.{all_printed, line_printed, InputPrinted}
 use Rattle.solve_lists.proofs.Runs as law
 use Rattle.solve_lists.proofs.solve_all.Goals as goal
 
-pub loop-number-init : goal.loop-number-init
-loop-number-init g c =
-    record {
-      buffer_long = ap (λ m. length m.now) c.new-lines.ensures.same_memory.0;
-      line_long = ap (λ m. length m.now) c.new-lines.ensures.same_memory.1;
-      solving = λ xs k b n. law.none_solved xs _ _ _ _ _ (law.nothing_unread _ (seen c.new-lines.result Nothing) c.new-lines.ensures.nothing_read.0 c.new-lines.ensures.nothing_read.1) k;
-    }
-
 pub held_of-requires : goal.held_of-requires
 held_of-requires g c =
     law.held_within _ _ _ _ _ c.next_line.ensures.line c.next_line.ensures.same_memory.line_long _ (c.in-Ok-Some.is ∙ ap Ok c.in-Ok-Some.field-0-is)
-
-pub write_line-requires : goal.write_line-requires
-write_line-requires g c =
-    let within : c.in-Ok-Some.held ≤ length c.next_line.new.self.line.bytes.now =
-    law.held_within _ _ _ _ _ c.next_line.ensures.line c.next_line.ensures.same_memory.line_long _ (c.in-Ok-Some.is ∙ ap Ok c.in-Ok-Some.field-0-is) in
-    let long : length c.held_of.result.now ≡ c.in-Ok-Some.held = ap length c.held_of.ensures ∙ length-take-le _ _ within in (
-      omega (arith, long, within, c.next_line.ensures.same_memory.line_long, c.loop-number.invariant.line_long, c.requires.0),
-      omega (arith, c.loop-number.auto.out, c.requires.1),
-    )
 
 pub returns-in-Ok-None : goal.returns-in-Ok-None
 returns-in-Ok-None g c =

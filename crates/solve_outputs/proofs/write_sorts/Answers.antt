@@ -1,10 +1,7 @@
 -- An expression more stores its row. Assumes nothing.
 use Rattle.std.proofs.Common.{arith}
-use Rattle.solve_outputs.proofs.Naming.{sorts_begin, sorts_end, sorts_go_on}
+use Rattle.solve_outputs.proofs.Naming.{sorts_end, sorts_go_on}
 use Rattle.solve_outputs.proofs.write_sorts.Goals as goal
-
-pub loop-x-init : goal.loop-x-init
-loop-x-init c = sorts_begin c.args.scratch.now c.args.typing.now c.args.exprs
 
 pub loop-x-preserved : goal.loop-x-preserved
 loop-x-preserved c =

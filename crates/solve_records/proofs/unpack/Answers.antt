@@ -1,10 +1,7 @@
 -- A record more stores its words. Assumes nothing.
 use Rattle.std.proofs.Common.{arith}
-use Rattle.solve_records.proofs.Unpacked.{records_begin, records_go_on, records_end}
+use Rattle.solve_records.proofs.Unpacked.{records_go_on, records_end}
 use Rattle.solve_records.proofs.unpack.Goals as goal
-
-pub loop-i-init : goal.loop-i-init
-loop-i-init c = records_begin c.args.records.now
 
 pub loop-i-preserved : goal.loop-i-preserved
 loop-i-preserved c =

@@ -1,9 +1,7 @@
 -- The search, one cycle of eleven functions: each call is asked for by the laws of its way, and each return is the definition on that way.
 -- Assumes nothing.
-use Rattle.std.proofs.Common.{◌∙◌, refl, sym, ap, subst, length, false, arith}
+use Rattle.std.proofs.Common.{◌∙◌, refl, sym, ap, subst, false, arith}
 use Rattle.std.specs.Prelude.{Ok}
-use Rattle.search_state.specs.Inner.Leaves.{trail_after}
-use Rattle.search_state.specs.declared.Step.TheVariants.{Component}
 use Rattle.search_state.specs.Inner.Leaves.{given_back_to}
 use Rattle.search_state.specs.Inner.Searching.{trying, Comes as ComesIn}
 use Rattle.search_state.specs.Inner.Solving.{Given, Kept, Lists, has_best, is_tied, state_of, answer_of}
@@ -36,15 +34,6 @@ attempt-resume-found-requires t c =
           (rw c.push-then.ensures.2.1 (at.goes_on _ _ _ _ _ _ _ _ c.args.step _ c.requires.0 _ _ _ _ c.unify_pairs.ensures.0 _ c.in-Some.is _ _
           c.push-then.ensures.0 c.push-then.ensures.1)),
     )
-
-pub attempt-roll_back-requires : goal.attempt-roll_back-requires
-attempt-roll_back-requires t c =
-    let s = c.args.search.now in
-    let u = c.unify_pairs.ensures.0 in
-    at.undo_room _ _ _ _ _ _ _ _ c.args.step _ c.requires.0 _ _ _ _ u _ (ap (trail_after c.args.at.trail) c.in-Some.is) c.resume-found.new.search.scratch.now
-    (c.resume-found.ensures.comes.path.long ∙ (ap length c.push-then.ensures.0
-    ∙ (at.step_long s.lists.now s.sizes c.requires.0.sized s.scratch.now c.unify_pairs.new.search.scratch.now (omega (arith, c.requires.0.long, u.long))
-    u.rest c.args.at c.args.step ∙ u.long)))
 
 pub attempt-returns : goal.attempt-returns
 attempt-returns t c =
@@ -127,12 +116,6 @@ solve-returns t c =
     }
 
 -- `solve_comprehension`: a container made and tried for each reading in turn.
-pub solve_comprehension-loop-reading-init : goal.solve_comprehension-loop-reading-init
-solve_comprehension-loop-reading-init t c = st.readings_begin _ _ _ _ _ _ c.requires.0 (c.requires.1, c.requires.2, c.requires.3)
-
-pub solve_comprehension-intern_container-requires : goal.solve_comprehension-intern_container-requires
-solve_comprehension-intern_container-requires t c = (c.loop-reading.invariant.asked.ready.nodes.sorts, c.loop-reading.invariant.places.2)
-
 pub solve_comprehension-returns-in_err-container : goal.solve_comprehension-returns-in_err-container
 solve_comprehension-returns-in_err-container t c =
     st.passed _ _ _ _ _ _ (no_sort_room _ c.from_residual.ensures)
@@ -382,14 +365,6 @@ solve_join_seq-returns t c =
     }
 
 -- `solve_lit`: at a number sort its component, at a free place the tries, else not found.
-pub solve_lit-resume-requires : goal.solve_lit-resume-requires
-solve_lit-resume-requires t c =
-    let p = c.push-then.ensures in (
-      omega (arith, c.decreases, ap (λ (l : Lists). work l.given.sizes.constraints c.args.next) p.2.0),
-      asked_bound c.args.search.now c.push-then.new.search c.push-then.result p.2.0 _ _ _
-          (rw p.2.1 (at.goes_with _ _ _ _ _ _ _ _ (Component _) _ c.requires.0 _ _ p.0 p.1)),
-    )
-
 pub solve_lit-tries-requires : goal.solve_lit-tries-requires
 solve_lit-tries-requires t c = (
   omega (arith, c.decreases),
@@ -584,12 +559,6 @@ solve_widening-returns t c =
     }
 
 -- `tries`: one try after another up to the first that found.
-pub tries-loop-j-init : goal.tries-loop-j-init
-tries-loop-j-init t c = st.tries_begin _ _ _ _ c.requires.0 c.requires.1
-
-pub tries-try_component-component-requires : goal.tries-try_component-component-requires
-tries-try_component-component-requires t c = (omega (arith, c.loop-j-test.true, c.loop-j.invariant.fine.few), c.loop-j.invariant.fine.first)
-
 pub tries-attempt-requires : goal.tries-attempt-requires
 tries-attempt-requires t c = (
   omega (arith, c.decreases, ap (λ (g : Given). work g.sizes.constraints c.args.next) c.loop-j.invariant.same),

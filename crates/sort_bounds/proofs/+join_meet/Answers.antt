@@ -97,10 +97,6 @@ bound-against-requires t c =
     _ _ _ _ c.loop-k.invariant.1 c.loop-k-test.true _ _ c.argument-lhs_arg.ensures c.argument-rhs_arg.ensures in
     (omega (arith, c.decreases, h.0), h.1)
 
-pub bound-returns-in_err-arg-in-Function-Function-clause-same_reference : goal.bound-returns-in_err-arg-in-Function-Function-clause-same_reference
-bound-returns-in_err-arg-in-Function-Function-clause-same_reference t c =
-    c.against.ensures.same_reference ∙ c.loop-k.invariant.0
-
 pub bound-returns-in_err-arg-in-Function-Function-clause-left : goal.bound-returns-in_err-arg-in-Function-Function-clause-left
 bound-returns-in_err-arg-in-Function-Function-clause-left t c =
     let s = c.args.sorts.now in
@@ -111,10 +107,6 @@ bound-returns-in_err-arg-in-Function-Function-clause-left t c =
     _ _ _ _ c.loop-k.invariant.1 c.loop-k-test.true _ _ c.argument-lhs_arg.ensures c.argument-rhs_arg.ensures
     _ _ _ c.against.ensures.left
     c.in_err-arg-in-Function-Function.was
-
-pub bound-returns-in_default-3-clause-same_reference : goal.bound-returns-in_default-3-clause-same_reference
-bound-returns-in_default-3-clause-same_reference t c =
-    c.against.ensures.same_reference ∙ c.loop-k.invariant.0
 
 pub bound-returns-in_default-3-clause-left : goal.bound-returns-in_default-3-clause-left
 bound-returns-in_default-3-clause-left t c =
@@ -160,10 +152,6 @@ bound-bound-requires-in-Function-Function t c =
     (let h : c.loop-k.k ≤ i.lhs_domain.count = c.loop-k.auto.k-end in omega (arith, c.loop-k-test.false)) in
     (omega (arith, c.decreases, h.0), h.1)
 
-pub bound-returns-in_err-range-in-Function-Function-clause-same_reference : goal.bound-returns-in_err-range-in-Function-Function-clause-same_reference
-bound-returns-in_err-range-in-Function-Function-clause-same_reference t c =
-    c.bound-in-Function-Function.ensures.same_reference ∙ c.loop-k.invariant.0
-
 pub bound-returns-in_err-range-in-Function-Function-clause-left : goal.bound-returns-in_err-range-in-Function-Function-clause-left
 bound-returns-in_err-range-in-Function-Function-clause-left t c =
     let s = c.args.sorts.now in
@@ -174,10 +162,6 @@ bound-returns-in_err-range-in-Function-Function-clause-left t c =
     _ _ _ _ c.loop-k.invariant.1
     (let h : c.loop-k.k ≤ i.lhs_domain.count = c.loop-k.auto.k-end in omega (arith, c.loop-k-test.false)) _ _ _ c.bound-in-Function-Function.ensures.left
     c.in_err-range-in-Function-Function.was
-
-pub bound-returns-in_default-4-clause-same_reference : goal.bound-returns-in_default-4-clause-same_reference
-bound-returns-in_default-4-clause-same_reference t c =
-    c.bound-in-Function-Function.ensures.same_reference ∙ c.loop-k.invariant.0
 
 pub bound-returns-in_default-4-clause-left : goal.bound-returns-in_default-4-clause-left
 bound-returns-in_default-4-clause-left t c =
@@ -221,10 +205,6 @@ bound-function-requires t c =
     (let h : c.loop-k.k ≤ i.lhs_domain.count = c.loop-k.auto.k-end in omega (arith, c.loop-k-test.false)) _ _ _ c.bound-in-Function-Function.ensures.left
     _ (c.in_ok-range-in-Function-Function.was ∙ ap Ok c.in-Some-4.is)
 
-pub bound-returns-in_err-function-in-Function-Function-clause-same_reference : goal.bound-returns-in_err-function-in-Function-Function-clause-same_reference
-bound-returns-in_err-function-in-Function-Function-clause-same_reference t c =
-    c.function.ensures.same_reference ∙ (c.bound-in-Function-Function.ensures.same_reference ∙ c.loop-k.invariant.0)
-
 pub bound-returns-in_err-function-in-Function-Function-clause-left : goal.bound-returns-in_err-function-in-Function-Function-clause-left
 bound-returns-in_err-function-in-Function-Function-clause-left t c =
     let s = c.args.sorts.now in
@@ -257,10 +237,6 @@ bound-returns-in_ok-generic-in-Container-Container-clause-left t c =
     _ c.farther-in-Container-Container.ensures _ c.in-Some.is
     _ _ _ c.bound.ensures.left
     _ (c.in_ok-subsort-in-Container-Container.was ∙ ap Ok c.in-Some-2.is) c.generic.new.self.words.now c.generic.new.self.counts c.generic.result c.generic.ensures.interned
-
-pub bound-returns-in_ok-function-in-Function-Function-clause-same_reference : goal.bound-returns-in_ok-function-in-Function-Function-clause-same_reference
-bound-returns-in_ok-function-in-Function-Function-clause-same_reference t c =
-    c.function.ensures.same_reference ∙ (c.bound-in-Function-Function.ensures.same_reference ∙ c.loop-k.invariant.0)
 
 pub bound-returns-in_ok-function-in-Function-Function-clause-left : goal.bound-returns-in_ok-function-in-Function-Function-clause-left
 bound-returns-in_ok-function-in-Function-Function-clause-left t c =

@@ -1,11 +1,7 @@
 -- Each step is one of a run from the front. Assumes nothing.
-use Rattle.std.proofs.Common.{sym, ap, ◌∙◌}
-use Rattle.sort_text.specs.Tokens.{past}
+use Rattle.std.proofs.Common.{sym, ◌∙◌}
 use Rattle.sort_lexer.proofs.RunEnd as law
 use Rattle.sort_lexer.proofs.run_end.Goals as goal
-
-pub loop-i-init : goal.loop-i-init
-loop-i-init g c = λ p h. ap (past p) (sym c.rest-byte-items.ensures)
 
 pub returns-then-not-passes : goal.returns-then-not-passes
 returns-then-not-passes g c = λ p h.

@@ -41,9 +41,6 @@ returns-in_err-part-in-Container-Container t c =
     (say.numbers_differ _ _ c.eq.ensures c.if-eq.false) c.get.ensures c.get-2.ensures i.is-0 i.is-1)
     c.widening_distance.ensures c.in_err-part-in-Container-Container.was
 
-pub loop-k-init : goal.loop-k-init
-loop-k-init t c = law.steps_at_start _ _ _ _ _
-
 pub widening_distance-requires-in-loop-k : goal.widening_distance-requires-in-loop-k
 widening_distance-requires-in-loop-k t c =
     let r = c.requires in

@@ -13,12 +13,6 @@ returns-in_err-subsort-in-Container-clause-left c =
     way.handed_on _ _ _ _ c.from_residual.ensures
     (way.container_missing _ _ _ _ _ _ _ c.loop-step.invariant.1 _ c.loop-step.invariant.2 c.loop-step-test.true _ c.from.ensures _ c.in-Container.is _ c.in_err-subsort-in-Container.ensures.top)
 
-pub generic-requires : goal.generic-requires
-generic-requires c = (
-  c.loop-step.invariant.2.running.checked,
-  way.container_part _ _ _ _ _ _ _ c.loop-step.invariant.1 _ c.loop-step.invariant.2 c.loop-step-test.true _ c.from.ensures _ c.in-Container.is _ _ c.in_ok-subsort-in-Container.ensures.top,
-)
-
 pub returns-in_err-ok-in-Container-clause-left : goal.returns-in_err-ok-in-Container-clause-left
 returns-in_err-ok-in-Container-clause-left c =
     way.handed_on _ _ _ _ c.from_residual-in_err-ok-in-Container.ensures

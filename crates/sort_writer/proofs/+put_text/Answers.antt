@@ -13,9 +13,6 @@ pub put_text-requires-in-loop-k : goal.put_text-requires-in-loop-k
 put_text-requires-in-loop-k t c =
     law.argument_falls c.args.sorts.now.checked c.requires c.get.ensures c.in-Function.is c.decreases c.loop-k-test.true c.argument.ensures
 
-pub loop-k-init : goal.loop-k-init
-loop-k-init t c = law.none_yet _ _ _ _ _
-
 pub loop-k-preserved : goal.loop-k-preserved
 loop-k-preserved t c =
     law.one_more _ _ _ _ _ _ _ c.loop-k-test.true c.loop-k.invariant _

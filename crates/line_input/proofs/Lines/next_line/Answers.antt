@@ -11,29 +11,16 @@ returns-then-take-clause-line g c =
 pub loop-init : goal.loop-init
 loop-init g c = law.none_read_yet _ _ _ c.if-take.false c.take.ensures.same_memory c.take.ensures.buffer c.take.ensures.taken _ _
 
-pub returns-in_err-fill-clause-same_memory : goal.returns-in_err-fill-clause-same_memory
-returns-in_err-fill-clause-same_memory g c = law.same_then _ _ _ c.loop.invariant.same c.fill.ensures.same_memory
-
 pub returns-in_err-fill-clause-line : goal.returns-in_err-fill-clause-line
 returns-in_err-fill-clause-line g c =
     let p = err_from_is_err_and c.from_residual.result c.from_residual.ensures.1 in
     law.read_failed _ _ _ _ _ _ _ _ c.loop.invariant (omega (arith, c.loop-test.true)) _ _ _ _
     c.fill.ensures.same_memory c.fill.ensures.line c.fill.ensures.filled _ c.in_err-fill.was _ (p.1 ∙ ap Err p.2)
 
-pub returns-then-branch-eq0-clause-same_memory : goal.returns-then-branch-eq0-clause-same_memory
-returns-then-branch-eq0-clause-same_memory g c = law.same_then _ _ _ c.loop.invariant.same c.fill.ensures.same_memory
-
 pub returns-then-branch-eq0-clause-line : goal.returns-then-branch-eq0-clause-line
 returns-then-branch-eq0-clause-line g c =
     law.ends _ _ _ _ _ _ _ _ c.loop.invariant (omega (arith, c.loop-test.true)) _ _ _ _
     c.fill.ensures.same_memory c.fill.ensures.line c.fill.ensures.filled _ c.in_ok-fill.was c.if-branch-eq0.true _ c.then_some.ensures
-
-pub take-requires-in-loop : goal.take-requires-in-loop
-take-requires-in-loop g c = law.room_for_line _ _ _ _ _ _ _ _ c.loop.invariant _ c.fill.ensures.line
-
-pub returns-then-take-2-clause-same_memory : goal.returns-then-take-2-clause-same_memory
-returns-then-take-2-clause-same_memory g c =
-    law.same_then _ _ _ c.loop.invariant.same (law.same_then _ _ _ c.fill.ensures.same_memory c.take-in-loop.ensures.same_memory)
 
 pub returns-then-take-2-clause-line : goal.returns-then-take-2-clause-line
 returns-then-take-2-clause-line g c =
@@ -48,9 +35,6 @@ loop-preserved g c =
     c.fill.ensures.same_memory c.fill.ensures.line c.fill.ensures.filled _ c.in_ok-fill.was
     c.if-branch-eq0.false _ c.take-in-loop.ensures.same_memory c.take-in-loop.ensures.buffer _ c.take-in-loop.ensures.taken
     c.if-take-2.false
-
-pub returns-clause-same_memory : goal.returns-clause-same_memory
-returns-clause-same_memory g c = c.loop.invariant.same
 
 pub returns-clause-line : goal.returns-clause-line
 returns-clause-line g c = law.reads_used_up _ _ _ _ _ _ _ _ c.loop.invariant (omega (arith, c.loop-test.false)) _ c.from.ensures

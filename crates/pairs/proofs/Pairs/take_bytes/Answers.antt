@@ -7,9 +7,6 @@ use Rattle.pairs.proofs.Pairs.take_bytes.Goals as goal
 pub loop-from-init : goal.loop-from-init
 loop-from-init g c = law.none_taken_yet _ _ _ _ (omega arith)
 
-pub write-requires : goal.write-requires
-write-requires g c = law.put_within _ _ _ _ _ _ _ _ c.loop-from.invariant c.loop-from-test.true _ _ _ _ _ c.feed-fed.ensures.feeds
-
 pub loop-from-smaller : goal.loop-from-smaller
 loop-from-smaller g c = law.less_left _ _ _ _ _ _ _ _ c.loop-from.invariant c.loop-from-test.true _ _ _ _ _ c.feed-fed.ensures.feeds
 

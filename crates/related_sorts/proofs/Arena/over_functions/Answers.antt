@@ -4,12 +4,6 @@ use Rattle.related_sorts.proofs.Laws as laws
 use Rattle.related_sorts.proofs.Ranges as law
 use Rattle.related_sorts.proofs.Arena.over_functions.Goals as goal
 
-pub loop-i-init : goal.loop-i-init
-loop-i-init c = ((refl, refl), law.rise_begins _ _ _ c.requires)
-
-pub bounds-functions-i : goal.bounds-functions-i
-bounds-functions-i c = omega (arith, c.loop-i.invariant.1.within, c.loop-i-test.true)
-
 pub over_function-requires : goal.over_function-requires
 over_function-requires c = law.function_asked c.args.functions.now _ _ _ _ c.loop-i.invariant.1 c.loop-i-test.true
 

@@ -4,9 +4,6 @@ use Rattle.related_sorts.specs.Arena.{world}
 use Rattle.related_sorts.proofs.Laws as law
 use Rattle.related_sorts.proofs.Arena.push_functions.Goals as goal
 
-pub loop-id-init : goal.loop-id-init
-loop-id-init c = ((refl, refl), law.over_begins c.args.domain.now c.args.ranges (let z : length c.args.ranges.ids ≡ 3 = search rules in z) (world c.args.self.now))
-
 pub returns-in_err-id-clause-lists : goal.returns-in_err-id-clause-lists
 returns-in_err-id-clause-lists c =
     let long : length c.args.ranges.ids ≡ 3 = search rules in

@@ -4,9 +4,6 @@ use Rattle.resolved_sort.specs.Entries.{At, Full}
 use Rattle.related_sorts.proofs.Laws as law
 use Rattle.related_sorts.proofs.Arena.related_generic.Goals as goal
 
-pub returns-in_default-clause-lists : goal.returns-in_default-clause-lists
-returns-in_default-clause-lists c = law.no_container c.args.up c.args.op c.related_container.result c.related_container.ensures c.in_default.is _ c.args.subsort.0 _ c.of.result c.of.ensures
-
 pub returns-in_err-id-clause-lists : goal.returns-in_err-id-clause-lists
 returns-in_err-id-clause-lists c = law.some_err _ _ _ (law.same_err _ _ c.from_residual.ensures)
     (law.room_moved _ _ _ _ (search rules) (law.no_room_for_sort c.args.up c.args.op c.related_container.result c.related_container.ensures _ c.in-Some.is c.args.subsort.0 c.args.self.now.sorts.now c.args.self.now.nodes.now c.args.self.now.lengths _ c.from-counts.ensures _ Full (law.interned_as _ _ _ _ c.in_err-id.was c.generic.ensures.interned) c.requires.0 refl))

@@ -18,6 +18,3 @@ loop-j-preserved c = (
   law.one_argument_more c.args.self.now.sizes.now c.args.self.now.sorts.now c.args.run.start c.args.run.count c.loop-j.j (c.loop-j.j - 1) _ _ _ _ (omega arith) c.loop-j.invariant.0
       c.loop-j.invariant.1 c.argument-first.ensures c.join_sizes.ensures c.join_sizes-size.ensures,
 )
-
-pub returns : goal.returns
-returns c = law.all_arguments c.args.self.now.sizes.now c.args.self.now.sorts.now c.args.run.start c.args.run.count c.loop-j.j _ (omega arith) c.loop-j.invariant.1

@@ -93,21 +93,9 @@ unify_parts-loop-i-preserved t c = (
   law.parts_go_on _ _ _ _ _ _ c.loop-i.invariant.1.trying _ _ _ _ _ _ _ _ c.loop-i.invariant.1 c.loop-i-test.true _ _ (c.part-p.ensures _ c.row-left.ensures (law.left_part _ _ _ _ _ _ c.loop-i.invariant.1.trying _ _ _ _ _ _ _ _ c.loop-i.invariant.1 c.loop-i-test.true).1) (c.part-q.ensures _ c.row-right.ensures (law.right_part _ _ _ _ _ _ c.loop-i.invariant.1.trying _ _ _ _ _ _ _ _ c.loop-i.invariant.1 c.loop-i-test.true).1) _ _ _ _ c.if-not-unify.false (leaves_too c.args.self.now.places c.loop-i.self.places c.loop-i.invariant.0.0 c.loop-i.self.binds.now c.loop-i.self.trail.now c.loop-i.self.count _ _ _ _ _ _ c.unify.ensures.leaves) c.unify.ensures.keeps.3 c.unify.ensures.keeps.4,
 )
 
-pub unify_parts-returns-then-not-unify-clause-keeps : goal.unify_parts-returns-then-not-unify-clause-keeps
-unify_parts-returns-then-not-unify-clause-keeps t c = (
-  c.unify.ensures.keeps.0 ∙ c.loop-i.invariant.0.0,
-  c.unify.ensures.keeps.1 ∙ c.loop-i.invariant.0.1,
-  c.unify.ensures.keeps.2 ∙ c.loop-i.invariant.0.2,
-  c.unify.ensures.keeps.3 ∙ c.loop-i.invariant.0.3,
-  c.unify.ensures.keeps.4 ∙ c.loop-i.invariant.0.4,
-)
-
 pub unify_parts-returns-then-not-unify-clause-leaves : goal.unify_parts-returns-then-not-unify-clause-leaves
 unify_parts-returns-then-not-unify-clause-leaves t c =
     law.part_fails _ _ _ _ _ _ c.loop-i.invariant.1.trying _ _ _ _ _ _ _ _ c.loop-i.invariant.1 c.loop-i-test.true _ _ (c.part-p.ensures _ c.row-left.ensures (law.left_part _ _ _ _ _ _ c.loop-i.invariant.1.trying _ _ _ _ _ _ _ _ c.loop-i.invariant.1 c.loop-i-test.true).1) (c.part-q.ensures _ c.row-right.ensures (law.right_part _ _ _ _ _ _ c.loop-i.invariant.1.trying _ _ _ _ _ _ _ _ c.loop-i.invariant.1 c.loop-i-test.true).1) _ _ _ _ c.if-not-unify.true (leaves_too c.args.self.now.places c.loop-i.self.places c.loop-i.invariant.0.0 c.loop-i.self.binds.now c.loop-i.self.trail.now c.loop-i.self.count _ _ _ _ _ _ c.unify.ensures.leaves)
-
-pub unify_parts-returns-clause-keeps : goal.unify_parts-returns-clause-keeps
-unify_parts-returns-clause-keeps t c = c.loop-i.invariant.0
 
 pub unify_parts-returns-clause-leaves : goal.unify_parts-returns-clause-leaves
 unify_parts-returns-clause-leaves t c = law.all_parts _ _ _ _ _ _ c.loop-i.invariant.1.trying _ _ _ _ _ _ _ _ c.loop-i.invariant.1 c.loop-i-test.false
