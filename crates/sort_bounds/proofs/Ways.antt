@@ -19,7 +19,7 @@ use Rattle.resolved_sort.specs.declared.Counts.{Counts}
 use Rattle.resolved_sort.specs.declared.NoRoom.{NoRoom}
 use Rattle.resolved_sort.specs.declared.Run.{Run}
 use Rattle.resolved_sort.specs.declared.ResolvedSort.{ResolvedSort}
-use Rattle.resolved_sort.specs.declared.ResolvedSort.TheVariants.{Function}
+use Rattle.resolved_sort.specs.declared.ResolvedSort.TheVariants.{Primitive, Container, Function}
 use Rattle.resolved_sort.specs.Entries.{Joined}
 use Rattle.resolved_sort.specs.Entries.{At, Nothing, Full}
 use Rattle.resolved_sort.specs.Tree.{primitive, container, function as functionSort, family, level, family_op, level_op}
@@ -32,8 +32,9 @@ use Rattle.resolved_sort.specs.Bounds.{Asked, bound_at, intern_at}
 use Rattle.resolved_sort.specs.Inner.Bounds.{container_at, TwoFunctions, All, Nothing as NotAll, Full as NoneFits, Domain, domain_left, stored_domain, bound_domain}
 use Rattle.resolved_sort.specs.Inner.Storage.{sort_numbers}
 use Rattle.resolved_sort.proofs.SortNumbers.{set_sort_numbers, zeros_sort_numbers, take_sort_numbers}
-use Rattle.resolved_sort.proofs.Pairs.{Unlike, OfPrimitives, OfContainers}
+use Rattle.resolved_sort.proofs.Pairs.{Unlike, OfContainers}
 use Rattle.resolved_sort.proofs.Reached.{no_confusion}
+use Rattle.resolved_sort.proofs.RowsSay.{numbers_differ, primitives, containers}
 use Rattle.resolved_sort.proofs.BoundsCode as law
 use Rattle.resolved_sort.proofs.DomainCode as domain
 use Rattle.resolved_sort.proofs.FunctionCode as functions
@@ -104,242 +105,262 @@ module _ (ws : List ℕ) (C : Counts) (up : Bool) (a b : SortId) (q : Asked ws C
   pub itself : a.0 ≡ b.0 → stored_at ws (At a C) ≡ bound_at up ws C.sorts C.entries a.0 b.0
   itself e = law.bound_itself ws C q.checked up a b q.lhs q.rhs e
 
-  module _ (d : a.0 ≡ b.0 → ⊥) where
-    pub other : Unlike (look (trees ws C.sorts) a.0) (look (trees ws C.sorts) b.0) → stored_at ws (Nothing C) ≡ bound_at up ws C.sorts C.entries a.0 b.0
-    other u = law.bound_unlike ws C q.checked up a b q.lhs q.rhs d u
+  -- two sorts that differ
+  module _ {same : Bool} (asked : same ≡ eqb a.0 b.0) (no : same ≡ false) where
+    d : a.0 ≡ b.0 → ⊥
+    d = numbers_differ a.0 b.0 asked no
+
+    pub other : ((a.0 ≡ b.0 → ⊥) → Unlike (look (trees ws C.sorts) a.0) (look (trees ws C.sorts) b.0))
+        → stored_at ws (Nothing C) ≡ bound_at up ws C.sorts C.entries a.0 b.0
+    other u = law.bound_unlike ws C q.checked up a b q.lhs q.rhs d (u d)
 
     by_side : (f g : Bool) → left_at ws C (Ok (cond f (Some (cond g b a)) None)) ≡ stored_at ws (cond f (cond g (At b C) (At a C)) (Nothing C))
     by_side true true = refl
     by_side true false = refl
     by_side false g = refl
 
-    pub number : {l r : Sort} → OfPrimitives ws C.sorts C.entries a.0 b.0 l r → (x : Option SortId)
-        → x ≡ farther (λ s. family (primitive s)) (λ s. level (primitive s)) up l r a b → left_at ws C (Ok x) ≡ bound_at up ws C.sorts C.entries a.0 b.0
-    unfolding farther
-    number {l} {r} o x e =
-        ap (λ y. left_at ws C (Ok y)) e
-        ∙ (by_side (eqb (family (primitive l)) (family (primitive r))) (le_level up (level (primitive l)) (level (primitive r)))
-        ∙ law.bound_number ws C q.checked up a b q.lhs q.rhs d l r o)
+    -- with these rows
+    module _ {lhs_row rhs_row : ResolvedSort} (el : lhs_row ≡ row_at ws a.0) (er : rhs_row ≡ row_at ws b.0) where
+      pub number : {l r : Sort} → lhs_row ≡ Primitive l → rhs_row ≡ Primitive r → (x : Option SortId)
+          → x ≡ farther (λ s. family (primitive s)) (λ s. level (primitive s)) up l r a b → left_at ws C (Ok x) ≡ bound_at up ws C.sorts C.entries a.0 b.0
+      unfolding farther
+      number {l} {r} il ir x e =
+          ap (λ y. left_at ws C (Ok y)) e
+          ∙ (by_side (eqb (family (primitive l)) (family (primitive r))) (le_level up (level (primitive l)) (level (primitive r)))
+          ∙ law.bound_number ws C q.checked up a b q.lhs q.rhs d l r (primitives q.checked q.lhs q.rhs d el er il ir))
 
-    module _ {o p : ComplexSort} {s t : SortId} (h : OfContainers ws C.sorts C.entries a.0 b.0 o s p t) where
-      -- the parts are numbers of the list, below the containers
-      pub parts_asked : (s.0 + t.0 < a.0 + b.0) × Asked ws C.sorts C.entries s.0 t.0
-      parts_asked = (
-        omega (arith, h.lhs_below, h.rhs_below),
-        record { checked = q.checked; lhs = omega (arith, h.lhs_below, q.lhs); rhs = omega (arith, h.rhs_below, q.rhs) },
-      )
+      -- two containers
+      module _ {o p : ComplexSort} {s t : SortId} (il : lhs_row ≡ Container o s) (ir : rhs_row ≡ Container p t) where
+        h : OfContainers ws C.sorts C.entries a.0 b.0 o s p t
+        h = containers q.checked q.lhs q.rhs d el er il ir
 
-      whole : container_at up ws C.sorts C.entries o s.0 p t.0 ≡ bound_at up ws C.sorts C.entries a.0 b.0
-      whole = law.bound_container ws C q.checked up a b q.lhs q.rhs d o s p t h
+        -- the parts are numbers of the list, below the containers
+        pub parts_asked : (s.0 + t.0 < a.0 + b.0) × Asked ws C.sorts C.entries s.0 t.0
+        parts_asked = (
+          omega (arith, h.lhs_below, h.rhs_below),
+          record { checked = q.checked; lhs = omega (arith, h.lhs_below, q.lhs); rhs = omega (arith, h.rhs_below, q.rhs) },
+        )
 
-      module _ (x : Option ComplexSort) (e : x ≡ farther family_op level_op up o p o p) where
-        pub no_operator : x ≡ None → stored_at ws (Nothing C) ≡ bound_at up ws C.sorts C.entries a.0 b.0
-        no_operator f =
-            law.container_none ws C q.checked up o s p t parts_asked.1.lhs parts_asked.1.rhs (none_picked up o p e f) ∙ whole
+        whole : container_at up ws C.sorts C.entries o s.0 p t.0 ≡ bound_at up ws C.sorts C.entries a.0 b.0
+        whole = law.bound_container ws C q.checked up a b q.lhs q.rhs d o s p t h
 
-        module _ (y : ComplexSort) (f : x ≡ Some y) (vs : List ℕ) (K : Counts) (r : Result (Option SortId) NoRoom)
-            (left : left_at vs K r ≡ bound_at up ws C.sorts C.entries s.0 t.0) where
-          by_part : stored_at vs (joined K r) ≡ bound_at up ws C.sorts C.entries s.0 t.0
-          by_part = left_is vs K r ∙ left
+        module _ (x : Option ComplexSort) (e : x ≡ farther family_op level_op up o p o p) where
+          pub no_operator : x ≡ None → stored_at ws (Nothing C) ≡ bound_at up ws C.sorts C.entries a.0 b.0
+          no_operator f =
+              law.container_none ws C q.checked up o s p t parts_asked.1.lhs parts_asked.1.rhs (none_picked up o p e f) ∙ whole
 
-          pub part_stops : r ≡ Ok None → stored_at vs (Nothing K) ≡ bound_at up ws C.sorts C.entries a.0 b.0
-          part_stops z =
-              law.container_stops ws C q.checked up o s p t parts_asked.1.lhs parts_asked.1.rhs y (op_picked up o p e y f)
-              vs (joined K r) by_part K (ap (joined K) z) ∙ whole
+          module _ (y : ComplexSort) (f : x ≡ Some y) (vs : List ℕ) (K : Counts) (r : Result (Option SortId) NoRoom)
+              (left : left_at vs K r ≡ bound_at up ws C.sorts C.entries s.0 t.0) where
+            by_part : stored_at vs (joined K r) ≡ bound_at up ws C.sorts C.entries s.0 t.0
+            by_part = left_is vs K r ∙ left
 
-          pub part_ends : {w : NoRoom} → r ≡ Err w → stored_at vs Full ≡ bound_at up ws C.sorts C.entries a.0 b.0
-          part_ends z =
-              law.container_ends ws C q.checked up o s p t parts_asked.1.lhs parts_asked.1.rhs y (op_picked up o p e y f)
-              vs (joined K r) by_part (ap (joined K) z) ∙ whole
+            pub part_stops : r ≡ Ok None → stored_at vs (Nothing K) ≡ bound_at up ws C.sorts C.entries a.0 b.0
+            part_stops z =
+                law.container_stops ws C q.checked up o s p t parts_asked.1.lhs parts_asked.1.rhs y (op_picked up o p e y f)
+                vs (joined K r) by_part K (ap (joined K) z) ∙ whole
 
-          module _ (c : SortId) (z : r ≡ Ok (Some c)) where
-            pub generic_asked : Checked vs K.sorts K.entries × (c.0 < K.sorts)
-            generic_asked = (
-              law.container_checked ws C q.checked up o s p t parts_asked.1.lhs parts_asked.1.rhs y (op_picked up o p e y f)
-                  vs (joined K r) by_part c K (ap (joined K) z),
-              law.container_below ws C q.checked up o s p t parts_asked.1.lhs parts_asked.1.rhs y (op_picked up o p e y f)
-                  vs (joined K r) by_part c K (ap (joined K) z),
-            )
+            pub part_ends : {w : NoRoom} → r ≡ Err w → stored_at vs Full ≡ bound_at up ws C.sorts C.entries a.0 b.0
+            part_ends z =
+                law.container_ends ws C q.checked up o s p t parts_asked.1.lhs parts_asked.1.rhs y (op_picked up o p e y f)
+                vs (joined K r) by_part (ap (joined K) z) ∙ whole
 
-            pub container_made : (us : List ℕ) (L : Counts) (w : Result SortId NoRoom)
-                → interned_at us L w ≡ intern_at vs K.sorts K.entries (container y (look (trees vs K.sorts) c.0))
-                → interned_at us L w ≡ bound_at up ws C.sorts C.entries a.0 b.0
-            container_made us L w i =
-                sym (interned_is us L w)
-                ∙ (law.container_made ws C q.checked up o s p t parts_asked.1.lhs parts_asked.1.rhs y (op_picked up o p e y f)
-                vs (joined K r) by_part c K (ap (joined K) z) us (interned L w) (interned_is us L w ∙ i) ∙ whole)
-
-    -- two functions with as many arguments
-    module _ (x y : Run) (u v : SortId) (ex : row_at ws a.0 ≡ Function x u) (ey : row_at ws b.0 ≡ Function y v) (m : x.count ≡ y.count) where
-      pair_is : pair_at ws a.0 b.0 ≡ Functions x.count x.start u y.start v
-      unfolding pair_of with_function
-      pair_is = ap₂ pair_of ex ey ∙ rw (eq-eqb x.count y.count m)
-
-      two : TwoFunctions ws C.sorts C.entries a.0 b.0
-      two = domain.two_functions ws C.sorts C.entries a.0 b.0 q x.count x.start u y.start v pair_is
-
-      abbrev function_at : ℕ → ResolvedSort
-      function_at i = Function (record { start = start_at ws i; count = count_at ws i }) (record { 0 = part_at ws i })
-
-      lhs_says : function_at a.0 ≡ Function x u
-      lhs_says = sym (domain.function_says ws a.0 two.lhs_function) ∙ ex
-
-      rhs_says : function_at b.0 ≡ Function y v
-      rhs_says = sym (domain.function_says ws b.0 two.rhs_function) ∙ ey
-
-      lhs_run : record { start = start_at ws a.0; count = count_at ws a.0 } ≡ x
-      lhs_run = run_is _ x _ u lhs_says
-
-      rhs_run : record { start = start_at ws b.0; count = count_at ws b.0 } ≡ y
-      rhs_run = run_is _ y _ v rhs_says
-
-      lhs_part : part_at ws a.0 ≡ u.0
-      lhs_part = ap (λ (i : SortId). i.0) (part_is _ x _ u lhs_says)
-
-      rhs_part : part_at ws b.0 ≡ v.0
-      rhs_part = ap (λ (i : SortId). i.0) (part_is _ y _ v rhs_says)
-
-      pub going_from_start : Going up ws C a.0 b.0 x y ws C 0 (replicate 16 (record { 0 = 0 }))
-      going_from_start =
-          record {
-            functions = two;
-            lhs_start = ap (λ (r : Run). r.start) lhs_run;
-            rhs_start = ap (λ (r : Run). r.start) rhs_run;
-            lhs_count = ap (λ (r : Run). r.count) lhs_run;
-            same = ap (bound_domain (not up) ws C.sorts C.entries a.0 b.0 0) (zeros_sort_numbers 16);
-            long = refl;
-          }
-
-      module _ (now : List ℕ) (K : Counts) (k : ℕ) (ids : List SortId) (g : Going up ws C a.0 b.0 x y now K k ids) where
-        few : x.count ≤ 16
-        few = omega (arith, g.lhs_count, domain.few_arguments now K.sorts K.entries g.functions.asked.checked a.0 g.functions.asked.lhs g.functions.lhs_function)
-
-        module _ (hk : k < x.count) (l r : SortId) (el : l.0 ≡ entry_at now (x.start + k)) (er : r.0 ≡ entry_at now (y.start + k)) where
-          one_left : k < count_at now a.0
-          one_left = omega (arith, hk, g.lhs_count)
-
-          pub below_sixteen : k < 16
-          below_sixteen = omega (arith, hk, few)
-
-          lhs_is : l.0 ≡ entry_at now (start_at now a.0 + k)
-          lhs_is = el ∙ ap (λ (i : ℕ). entry_at now (i + k)) (sym g.lhs_start)
-
-          rhs_is : r.0 ≡ entry_at now (start_at now b.0 + k)
-          rhs_is = er ∙ ap (λ (i : ℕ). entry_at now (i + k)) (sym g.rhs_start)
-
-          pub arguments_asked : (l.0 + r.0 < a.0 + b.0) × Asked now K.sorts K.entries l.0 r.0
-          arguments_asked = (
-            omega (
-              arith,
-              lhs_is,
-              rhs_is,
-              domain.x_below (not up) now K a.0 b.0 g.functions k (sort_numbers ids) one_left,
-              domain.y_below (not up) now K a.0 b.0 g.functions k (sort_numbers ids) one_left,
-            ),
-            rw (lhs_is, rhs_is) (domain.arguments_asked (not up) now K a.0 b.0 g.functions k (sort_numbers ids) one_left),
-          )
-
-          module _ (vs : List ℕ) (L : Counts) (j : Result (Option SortId) NoRoom) (left : left_at vs L j ≡ bound_at (not up) now K.sorts K.entries l.0 r.0) where
-            by_entries : stored_at vs (joined L j)
-                ≡ bound_at (not up) now K.sorts K.entries (entry_at now (start_at now a.0 + k)) (entry_at now (start_at now b.0 + k))
-            by_entries = left_is vs L j ∙ (left ∙ ap₂ (bound_at (not up) now K.sorts K.entries) lhs_is rhs_is)
-
-            pub arguments_stop : j ≡ Ok None → stored_at vs (Nothing L) ≡ bound_at up ws C.sorts C.entries a.0 b.0
-            arguments_stop z =
-                functions.function_stops up ws C a.0 b.0 two vs (record { ids = replicate 16 (record { 0 = 0 }); found = NotAll L })
-                (ap (λ i. domain_left vs i (NotAll L)) (zeros_sort_numbers 16)
-                ∙ (domain.domain_stops (not up) now K a.0 b.0 g.functions k (sort_numbers ids) one_left vs (joined L j) by_entries L (ap (joined L) z) ∙ g.same)) L refl
-                ∙ functions.bound_functions up ws C.sorts C.entries a.0 b.0 two d
-
-            pub arguments_end : {w : NoRoom} → j ≡ Err w → stored_at vs Full ≡ bound_at up ws C.sorts C.entries a.0 b.0
-            arguments_end z =
-                functions.function_ends up ws C a.0 b.0 two vs (record { ids = replicate 16 (record { 0 = 0 }); found = NoneFits })
-                (ap (λ i. domain_left vs i NoneFits) (zeros_sort_numbers 16)
-                ∙ (domain.domain_ends (not up) now K a.0 b.0 g.functions k (sort_numbers ids) one_left vs (joined L j) by_entries (ap (joined L) z) ∙ g.same)) refl
-                ∙ functions.bound_functions up ws C.sorts C.entries a.0 b.0 two d
-
-            module _ (c : SortId) (z : j ≡ Ok (Some c)) where
-              at : joined L j ≡ At c L
-              at = ap (joined L) z
-
-              pub going_on : Going up ws C a.0 b.0 x y vs L (k + 1) (set ids k c)
-              going_on =
-                  record {
-                    functions = domain.domain_next (not up) now K a.0 b.0 g.functions k (sort_numbers ids) one_left vs (joined L j) by_entries c L at;
-                    lhs_start = domain.lhs_start_unchanged (not up) now K a.0 b.0 g.functions k (sort_numbers ids) one_left vs (joined L j) by_entries c L at ∙ g.lhs_start;
-                    rhs_start = domain.rhs_start_unchanged (not up) now K a.0 b.0 g.functions k (sort_numbers ids) one_left vs (joined L j) by_entries c L at ∙ g.rhs_start;
-                    lhs_count = domain.count_unchanged (not up) now K a.0 b.0 g.functions k (sort_numbers ids) one_left vs (joined L j) by_entries c L at ∙ g.lhs_count;
-                    same = ap (bound_domain (not up) vs L.sorts L.entries a.0 b.0 (k + 1)) (set_sort_numbers ids k c)
-                        ∙ (domain.domain_goes_on (not up) now K a.0 b.0 g.functions k (sort_numbers ids) one_left vs (joined L j) by_entries c L at ∙ g.same);
-                    long = length-set ids k c ∙ g.long;
-                  }
-
-        -- all arguments are made
-        module _ (last : k ≡ x.count) where
-          abbrev made : Domain
-          made = record { ids = ids; found = All K }
-
-          done : stored_domain now made ≡ bound_domain (not up) ws C.sorts C.entries a.0 b.0 0 (replicate 16 0)
-          done = domain.domain_done (not up) now K a.0 b.0 g.functions k (sort_numbers ids) (last ∙ sym g.lhs_count) ∙ g.same
-
-          pub range_asked : (u.0 + v.0 < a.0 + b.0) × Asked now K.sorts K.entries u.0 v.0
-          range_asked = (
-            omega (
-              arith,
-              lhs_part,
-              rhs_part,
-              domain.range_below ws C.sorts C.entries q.checked a.0 q.lhs two.lhs_function,
-              domain.range_below ws C.sorts C.entries q.checked b.0 q.rhs two.rhs_function,
-            ),
-            subst (λ (i : ℕ). Asked now K.sorts K.entries i v.0) lhs_part
-                (subst (λ (i : ℕ). Asked now K.sorts K.entries (part_at ws a.0) i) rhs_part
-                (functions.range_asked up ws C a.0 b.0 two now made done K refl)),
-          )
-
-          pub domain_fits : x.count ≤ length ids
-          domain_fits = omega (arith, few, g.long)
-
-          pub domain_long : x.count ≡ length (take x.count ids)
-          domain_long = sym (length-take-le x.count ids domain_fits)
-
-          module _ (us : List ℕ) (L : Counts) (j : Result (Option SortId) NoRoom) (left : left_at us L j ≡ bound_at up now K.sorts K.entries u.0 v.0) where
-            by_parts : stored_at us (joined L j) ≡ bound_at up now K.sorts K.entries (part_at ws a.0) (part_at ws b.0)
-            by_parts = left_is us L j ∙ (left ∙ ap₂ (bound_at up now K.sorts K.entries) (sym lhs_part) (sym rhs_part))
-
-            pub range_stops : j ≡ Ok None → stored_at us (Nothing L) ≡ bound_at up ws C.sorts C.entries a.0 b.0
-            range_stops z =
-                functions.range_stops up ws C a.0 b.0 two now made done K refl us (joined L j) by_parts L (ap (joined L) z)
-                ∙ functions.bound_functions up ws C.sorts C.entries a.0 b.0 two d
-
-            pub range_ends : {w : NoRoom} → j ≡ Err w → stored_at us Full ≡ bound_at up ws C.sorts C.entries a.0 b.0
-            range_ends z =
-                functions.range_ends up ws C a.0 b.0 two now made done K refl us (joined L j) by_parts (ap (joined L) z)
-                ∙ functions.bound_functions up ws C.sorts C.entries a.0 b.0 two d
-
-            module _ (c : SortId) (z : j ≡ Ok (Some c)) where
-              there : joined L j ≡ At c L
-              there = ap (joined L) z
-
-              by_count : take (count_at ws a.0) (sort_numbers ids) ≡ sort_numbers (take x.count ids)
-              by_count = ap (λ (n : ℕ). take n (sort_numbers ids)) (ap (λ (r : Run). r.count) lhs_run) ∙ sym (take_sort_numbers x.count ids)
-
-              pub function_asked : Checked us L.sorts L.entries × (c.0 < L.sorts) × (length (take x.count ids) ≤ 16)
-                  × AllBelow L.sorts (sort_numbers (take x.count ids))
-              function_asked = (
-                functions.function_checked up ws C a.0 b.0 two now made done K refl us (joined L j) by_parts c L there,
-                functions.function_range_below up ws C a.0 b.0 two now made done K refl us (joined L j) by_parts c L there,
-                omega (arith, few, domain_long),
-                subst (AllBelow L.sorts) by_count
-                    (functions.function_ids_below up ws C a.0 b.0 two now made done K refl us (joined L j) by_parts c L there),
+            module _ (c : SortId) (z : r ≡ Ok (Some c)) where
+              pub generic_asked : Checked vs K.sorts K.entries × (c.0 < K.sorts)
+              generic_asked = (
+                law.container_checked ws C q.checked up o s p t parts_asked.1.lhs parts_asked.1.rhs y (op_picked up o p e y f)
+                    vs (joined K r) by_part c K (ap (joined K) z),
+                law.container_below ws C q.checked up o s p t parts_asked.1.lhs parts_asked.1.rhs y (op_picked up o p e y f)
+                    vs (joined K r) by_part c K (ap (joined K) z),
               )
 
-              pub function_made : (zs : List ℕ) (M : Counts) (w : Result SortId NoRoom)
-                  → interned_at zs M w ≡ intern_at us L.sorts L.entries (functionSort (look_all (trees us L.sorts)
-                  (sort_numbers (take x.count ids))) (look (trees us L.sorts) c.0))
-                  → interned_at zs M w ≡ bound_at up ws C.sorts C.entries a.0 b.0
-              function_made zs M w i =
-                  sym (interned_is zs M w)
-                  ∙ (functions.function_made up ws C a.0 b.0 two now made done K refl us (joined L j) by_parts c L there zs (interned M w)
-                  (interned_is zs M w ∙ (i ∙ ap (λ xs. intern_at us L.sorts L.entries (functionSort (look_all (trees us L.sorts) xs)
-                  (look (trees us L.sorts) c.0))) (sym by_count)))
-                  ∙ functions.bound_functions up ws C.sorts C.entries a.0 b.0 two d)
+              pub container_made : (us : List ℕ) (L : Counts) (w : Result SortId NoRoom)
+                  → interned_at us L w ≡ intern_at vs K.sorts K.entries (container y (look (trees vs K.sorts) c.0))
+                  → interned_at us L w ≡ bound_at up ws C.sorts C.entries a.0 b.0
+              container_made us L w i =
+                  sym (interned_is us L w)
+                  ∙ (law.container_made ws C q.checked up o s p t parts_asked.1.lhs parts_asked.1.rhs y (op_picked up o p e y f)
+                  vs (joined K r) by_part c K (ap (joined K) z) us (interned L w) (interned_is us L w ∙ i) ∙ whole)
+
+      -- two functions with as many arguments
+      module _ {x y : Run} {u v : SortId} (il : lhs_row ≡ Function x u) (ir : rhs_row ≡ Function y v) (m : x.count ≡ y.count) where
+        ex : row_at ws a.0 ≡ Function x u
+        ex = sym el ∙ il
+
+        ey : row_at ws b.0 ≡ Function y v
+        ey = sym er ∙ ir
+
+        pair_is : pair_at ws a.0 b.0 ≡ Functions x.count x.start u y.start v
+        unfolding pair_of with_function
+        pair_is = ap₂ pair_of ex ey ∙ rw (eq-eqb x.count y.count m)
+
+        two : TwoFunctions ws C.sorts C.entries a.0 b.0
+        two = domain.two_functions ws C.sorts C.entries a.0 b.0 q x.count x.start u y.start v pair_is
+
+        abbrev function_at : ℕ → ResolvedSort
+        function_at i = Function (record { start = start_at ws i; count = count_at ws i }) (record { 0 = part_at ws i })
+
+        lhs_says : function_at a.0 ≡ Function x u
+        lhs_says = sym (domain.function_says ws a.0 two.lhs_function) ∙ ex
+
+        rhs_says : function_at b.0 ≡ Function y v
+        rhs_says = sym (domain.function_says ws b.0 two.rhs_function) ∙ ey
+
+        lhs_run : record { start = start_at ws a.0; count = count_at ws a.0 } ≡ x
+        lhs_run = run_is _ x _ u lhs_says
+
+        rhs_run : record { start = start_at ws b.0; count = count_at ws b.0 } ≡ y
+        rhs_run = run_is _ y _ v rhs_says
+
+        lhs_part : part_at ws a.0 ≡ u.0
+        lhs_part = ap (λ (i : SortId). i.0) (part_is _ x _ u lhs_says)
+
+        rhs_part : part_at ws b.0 ≡ v.0
+        rhs_part = ap (λ (i : SortId). i.0) (part_is _ y _ v rhs_says)
+
+        pub going_from_start : Going up ws C a.0 b.0 x y ws C 0 (replicate 16 (record { 0 = 0 }))
+        going_from_start =
+            record {
+              functions = two;
+              lhs_start = ap (λ (r : Run). r.start) lhs_run;
+              rhs_start = ap (λ (r : Run). r.start) rhs_run;
+              lhs_count = ap (λ (r : Run). r.count) lhs_run;
+              same = ap (bound_domain (not up) ws C.sorts C.entries a.0 b.0 0) (zeros_sort_numbers 16);
+              long = refl;
+            }
+
+        module _ (now : List ℕ) (K : Counts) (k : ℕ) (ids : List SortId) (g : Going up ws C a.0 b.0 x y now K k ids) where
+          few : x.count ≤ 16
+          few = omega (arith, g.lhs_count, domain.few_arguments now K.sorts K.entries g.functions.asked.checked a.0 g.functions.asked.lhs g.functions.lhs_function)
+
+          module _ (hk : k < x.count) (l r : SortId) (lhs_read : l.0 ≡ entry_at now (x.start + k)) (rhs_read : r.0 ≡ entry_at now (y.start + k)) where
+            one_left : k < count_at now a.0
+            one_left = omega (arith, hk, g.lhs_count)
+
+            pub below_sixteen : k < 16
+            below_sixteen = omega (arith, hk, few)
+
+            lhs_is : l.0 ≡ entry_at now (start_at now a.0 + k)
+            lhs_is = lhs_read ∙ ap (λ (i : ℕ). entry_at now (i + k)) (sym g.lhs_start)
+
+            rhs_is : r.0 ≡ entry_at now (start_at now b.0 + k)
+            rhs_is = rhs_read ∙ ap (λ (i : ℕ). entry_at now (i + k)) (sym g.rhs_start)
+
+            pub arguments_asked : (l.0 + r.0 < a.0 + b.0) × Asked now K.sorts K.entries l.0 r.0
+            arguments_asked = (
+              omega (
+                arith,
+                lhs_is,
+                rhs_is,
+                domain.x_below (not up) now K a.0 b.0 g.functions k (sort_numbers ids) one_left,
+                domain.y_below (not up) now K a.0 b.0 g.functions k (sort_numbers ids) one_left,
+              ),
+              rw (lhs_is, rhs_is) (domain.arguments_asked (not up) now K a.0 b.0 g.functions k (sort_numbers ids) one_left),
+            )
+
+            module _ (vs : List ℕ) (L : Counts) (j : Result (Option SortId) NoRoom) (left : left_at vs L j ≡ bound_at (not up) now K.sorts K.entries l.0 r.0) where
+              by_entries : stored_at vs (joined L j)
+                  ≡ bound_at (not up) now K.sorts K.entries (entry_at now (start_at now a.0 + k)) (entry_at now (start_at now b.0 + k))
+              by_entries = left_is vs L j ∙ (left ∙ ap₂ (bound_at (not up) now K.sorts K.entries) lhs_is rhs_is)
+
+              pub arguments_stop : j ≡ Ok None → stored_at vs (Nothing L) ≡ bound_at up ws C.sorts C.entries a.0 b.0
+              arguments_stop z =
+                  functions.function_stops up ws C a.0 b.0 two vs (record { ids = replicate 16 (record { 0 = 0 }); found = NotAll L })
+                  (ap (λ i. domain_left vs i (NotAll L)) (zeros_sort_numbers 16)
+                  ∙ (domain.domain_stops (not up) now K a.0 b.0 g.functions k (sort_numbers ids) one_left vs (joined L j) by_entries L (ap (joined L) z) ∙ g.same)) L refl
+                  ∙ functions.bound_functions up ws C.sorts C.entries a.0 b.0 two d
+
+              pub arguments_end : {w : NoRoom} → j ≡ Err w → stored_at vs Full ≡ bound_at up ws C.sorts C.entries a.0 b.0
+              arguments_end z =
+                  functions.function_ends up ws C a.0 b.0 two vs (record { ids = replicate 16 (record { 0 = 0 }); found = NoneFits })
+                  (ap (λ i. domain_left vs i NoneFits) (zeros_sort_numbers 16)
+                  ∙ (domain.domain_ends (not up) now K a.0 b.0 g.functions k (sort_numbers ids) one_left vs (joined L j) by_entries (ap (joined L) z) ∙ g.same)) refl
+                  ∙ functions.bound_functions up ws C.sorts C.entries a.0 b.0 two d
+
+              module _ (c : SortId) (z : j ≡ Ok (Some c)) where
+                at : joined L j ≡ At c L
+                at = ap (joined L) z
+
+                pub going_on : Going up ws C a.0 b.0 x y vs L (k + 1) (set ids k c)
+                going_on =
+                    record {
+                      functions = domain.domain_next (not up) now K a.0 b.0 g.functions k (sort_numbers ids) one_left vs (joined L j) by_entries c L at;
+                      lhs_start = domain.lhs_start_unchanged (not up) now K a.0 b.0 g.functions k (sort_numbers ids) one_left vs (joined L j) by_entries c L at ∙ g.lhs_start;
+                      rhs_start = domain.rhs_start_unchanged (not up) now K a.0 b.0 g.functions k (sort_numbers ids) one_left vs (joined L j) by_entries c L at ∙ g.rhs_start;
+                      lhs_count = domain.count_unchanged (not up) now K a.0 b.0 g.functions k (sort_numbers ids) one_left vs (joined L j) by_entries c L at ∙ g.lhs_count;
+                      same = ap (bound_domain (not up) vs L.sorts L.entries a.0 b.0 (k + 1)) (set_sort_numbers ids k c)
+                          ∙ (domain.domain_goes_on (not up) now K a.0 b.0 g.functions k (sort_numbers ids) one_left vs (joined L j) by_entries c L at ∙ g.same);
+                      long = length-set ids k c ∙ g.long;
+                    }
+
+          -- all arguments are made
+          module _ (within : k ≤ x.count) (over : x.count ≤ k) where
+            last : k ≡ x.count
+            last = omega (arith, within, over)
+
+            abbrev made : Domain
+            made = record { ids = ids; found = All K }
+
+            done : stored_domain now made ≡ bound_domain (not up) ws C.sorts C.entries a.0 b.0 0 (replicate 16 0)
+            done = domain.domain_done (not up) now K a.0 b.0 g.functions k (sort_numbers ids) (last ∙ sym g.lhs_count) ∙ g.same
+
+            pub range_asked : (u.0 + v.0 < a.0 + b.0) × Asked now K.sorts K.entries u.0 v.0
+            range_asked = (
+              omega (
+                arith,
+                lhs_part,
+                rhs_part,
+                domain.range_below ws C.sorts C.entries q.checked a.0 q.lhs two.lhs_function,
+                domain.range_below ws C.sorts C.entries q.checked b.0 q.rhs two.rhs_function,
+              ),
+              subst (λ (i : ℕ). Asked now K.sorts K.entries i v.0) lhs_part
+                  (subst (λ (i : ℕ). Asked now K.sorts K.entries (part_at ws a.0) i) rhs_part
+                  (functions.range_asked up ws C a.0 b.0 two now made done K refl)),
+            )
+
+            pub domain_fits : x.count ≤ length ids
+            domain_fits = omega (arith, few, g.long)
+
+            pub domain_long : x.count ≡ length (take x.count ids)
+            domain_long = sym (length-take-le x.count ids domain_fits)
+
+            module _ (us : List ℕ) (L : Counts) (j : Result (Option SortId) NoRoom) (left : left_at us L j ≡ bound_at up now K.sorts K.entries u.0 v.0) where
+              by_parts : stored_at us (joined L j) ≡ bound_at up now K.sorts K.entries (part_at ws a.0) (part_at ws b.0)
+              by_parts = left_is us L j ∙ (left ∙ ap₂ (bound_at up now K.sorts K.entries) (sym lhs_part) (sym rhs_part))
+
+              pub range_stops : j ≡ Ok None → stored_at us (Nothing L) ≡ bound_at up ws C.sorts C.entries a.0 b.0
+              range_stops z =
+                  functions.range_stops up ws C a.0 b.0 two now made done K refl us (joined L j) by_parts L (ap (joined L) z)
+                  ∙ functions.bound_functions up ws C.sorts C.entries a.0 b.0 two d
+
+              pub range_ends : {w : NoRoom} → j ≡ Err w → stored_at us Full ≡ bound_at up ws C.sorts C.entries a.0 b.0
+              range_ends z =
+                  functions.range_ends up ws C a.0 b.0 two now made done K refl us (joined L j) by_parts (ap (joined L) z)
+                  ∙ functions.bound_functions up ws C.sorts C.entries a.0 b.0 two d
+
+              module _ (c : SortId) (z : j ≡ Ok (Some c)) where
+                there : joined L j ≡ At c L
+                there = ap (joined L) z
+
+                by_count : take (count_at ws a.0) (sort_numbers ids) ≡ sort_numbers (take x.count ids)
+                by_count = ap (λ (n : ℕ). take n (sort_numbers ids)) (ap (λ (r : Run). r.count) lhs_run) ∙ sym (take_sort_numbers x.count ids)
+
+                pub function_asked : Checked us L.sorts L.entries × (c.0 < L.sorts) × (length (take x.count ids) ≤ 16)
+                    × AllBelow L.sorts (sort_numbers (take x.count ids))
+                function_asked = (
+                  functions.function_checked up ws C a.0 b.0 two now made done K refl us (joined L j) by_parts c L there,
+                  functions.function_range_below up ws C a.0 b.0 two now made done K refl us (joined L j) by_parts c L there,
+                  omega (arith, few, domain_long),
+                  subst (AllBelow L.sorts) by_count
+                      (functions.function_ids_below up ws C a.0 b.0 two now made done K refl us (joined L j) by_parts c L there),
+                )
+
+                pub function_made : (zs : List ℕ) (M : Counts) (w : Result SortId NoRoom)
+                    → interned_at zs M w ≡ intern_at us L.sorts L.entries (functionSort (look_all (trees us L.sorts)
+                    (sort_numbers (take x.count ids))) (look (trees us L.sorts) c.0))
+                    → interned_at zs M w ≡ bound_at up ws C.sorts C.entries a.0 b.0
+                function_made zs M w i =
+                    sym (interned_is zs M w)
+                    ∙ (functions.function_made up ws C a.0 b.0 two now made done K refl us (joined L j) by_parts c L there zs (interned M w)
+                    (interned_is zs M w ∙ (i ∙ ap (λ xs. intern_at us L.sorts L.entries (functionSort (look_all (trees us L.sorts) xs)
+                    (look (trees us L.sorts) c.0))) (sym by_count)))
+                    ∙ functions.bound_functions up ws C.sorts C.entries a.0 b.0 two d)
