@@ -19,6 +19,8 @@ use Rattle.std.specs.Result.{result_unwrap_or}
 use Rattle.unification.specs.declared.Lengths.{Lengths}
 use Rattle.unification.specs.declared.InferSortId.{InferSortId}
 use Rattle.unification.specs.declared.SortVar.{SortVar}
+use Rattle.unification.specs.declared.NodeId.{NodeId}
+use Rattle.unification.specs.declared.Place.TheVariants.{Node}
 use Rattle.unification.specs.declared.InferSort.{InferSort}
 use Rattle.unification.specs.declared.InferSort.TheVariants.{Generic, Function, Var}
 use Rattle.unification.specs.Term.{container_head, function_head, Shape, variable, over}
@@ -29,6 +31,7 @@ use Rattle.unification.specs.Nodes.{binding_of, binds_of}
 use Rattle.unification.specs.NodeChecks.{node_parts_fine}
 use Rattle.unification.specs.Unify.{Occurs, absent, present, unknown, or_else, of_test, follow_at, follow, occurs_any, occurs_at, occurs, deep}
 use Rattle.unification.specs.Acyclic.{One, first, later}
+use Rattle.unification.specs.Inner.Apart.{TakenApart}
 use Rattle.unification.specs.Checked.{graph_of, Ready, Placed}
 use Rattle.unification.proofs.Rank.{highest, rank, Ranked, rank_var, rank_over, one_highest}
 use Rattle.unification.proofs.Parts.{one_last}
@@ -39,6 +42,7 @@ use Rattle.unification.proofs.Theorem.{ready_ranked}
 use Rattle.unification.proofs.Enough.{follow_eq, occurs_eq, end_no_higher}
 use Rattle.unification.proofs.Lists.{sort_parts_fine, scoped}
 use Rattle.infer_nodes.specs.Inner.Bound.{bound_to, RunPlaced}
+use Rattle.infer_nodes.proofs.Apart.{above_sorts, stands_at_place}
 use Rattle.infer_nodes.specs.Inner.Parts.{var_at}
 use Rattle.infer_nodes.proofs.Shapes.{at_sort, shape_of_node, parts_fine, shape_of_variable}
 
@@ -202,7 +206,13 @@ module _ (ws ns bs : List ℕ) (k : Lengths) (q : Ready ws ns bs k) where
     pub occurs_in_sort : end < max_sorts → occurs shape deep B u p ≡ absent
     occurs_in_sort l = same_there ∙ sort_absent u (suc end) end (omega arith) (sort_below k.sorts k.nodes end l end_placed)
 
-    module _ (l : max_sorts ≤ end) (r : InferSort) (i : r ≡ node_at ns (end - max_sorts)) where
+    module _ (n : NodeId) (apart : TakenApart end (Node n)) {r : InferSort} (stands : r ≡ node_at ns n.0) where
+      l : max_sorts ≤ end
+      l = above_sorts end n apart
+
+      i : r ≡ node_at ns (end - max_sorts)
+      i = stands_at_place end n apart ns stands
+
       pub occurs_at_variable : (v : SortVar) → r ≡ Var v → occurs shape deep B u p ≡ of_test (eqb u v.0)
       occurs_at_variable v x =
           let s = shape_of_variable ws ns k q.nodes end end_placed l r i v x in

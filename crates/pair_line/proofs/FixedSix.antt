@@ -1,5 +1,5 @@
 -- The fixed six sorts, put into any storage of full length, are a checked list. By their kinds. Assumes nothing.
-use mathlib.Core.Path.{◌≡◌, refl, ◌∙◌, ap, ap₂}
+use mathlib.Core.Path.{◌≡◌, refl, sym, subst, ◌∙◌, ap, ap₂}
 use mathlib.Core.Bool.{true, ◌&&◌}
 use mathlib.Core.List.{List, [], ◌∷◌, ◌++◌}
 use Prim.Native.Nat.{ℕ, zero, suc, ◌<◌, ◌≤◌}
@@ -143,7 +143,7 @@ module _ (ws : List ℕ) (l : full_length ≤ length ws) where
   no_two_equal_lem = ap distinct six_trees
 
   -- "the first six sorts are the fixed six"
-  pub six_begun : Begun (fixed_rows 0 fixed_sorts ws) 6 0 0
+  six_begun : Begun (fixed_rows 0 fixed_sorts ws) 6 0 0
   unfolding fixed_rows
   six_begun =
       record {
@@ -152,3 +152,7 @@ module _ (ws : List ℕ) (l : full_length ≤ length ws) where
         sorts = omega arith;
         entries = omega arith;
       }
+
+-- of what putting the six has left
+pub begun_with_six : (ws : List ℕ) {us : List ℕ} → full_length ≤ length ws → us ≡ fixed_rows 0 fixed_sorts ws → Begun us 6 0 0
+begun_with_six ws l e = subst (λ us. Begun us 6 0 0) (sym e) (six_begun ws l)

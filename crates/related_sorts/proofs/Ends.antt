@@ -21,6 +21,8 @@ use Rattle.resolved_sort.specs.Rows.{Checked}
 use Rattle.unification.specs.declared.Lengths.{Lengths}
 use Rattle.unification.specs.declared.InferSortId.{InferSortId}
 use Rattle.unification.specs.declared.SortVar.{SortVar}
+use Rattle.unification.specs.declared.NodeId.{NodeId}
+use Rattle.unification.specs.declared.Place.TheVariants.{Node}
 use Rattle.unification.specs.declared.InferSort.{InferSort}
 use Rattle.unification.specs.declared.InferSort.TheVariants.{Generic, Function, Var}
 use Rattle.unification.specs.Term.{Head, flat_head, container_head, function_head, Shape, variable, over}
@@ -30,6 +32,7 @@ use Rattle.unification.specs.Unify.{follow, deep}
 use Rattle.unification.specs.Acyclic.{first}
 use Rattle.unification.specs.Checked.{graph_of, Ready, Placed}
 use Rattle.unification.specs.Related.{related_container}
+use Rattle.unification.specs.Inner.Apart.{TakenApart}
 use Rattle.unification.specs.Making.{Lent, Makes, made, no_list, related_over, related_places, related_shape, related_end, strict_related}
 use Rattle.unification.specs.Inner.Making.{lent}
 use Rattle.unification.proofs.Follow.{follow_end}
@@ -43,6 +46,7 @@ use Rattle.unification.proofs.PlaceTerms.{placed_formed, sort_part_below}
 use Rattle.unification.proofs.Rows.{ShapeFormed, variable_formed, flat_formed, container_formed, function_formed}
 use Rattle.infer_nodes.specs.Inner.Parts.{NodesReady}
 use Rattle.infer_nodes.proofs.Shapes.{at_sort, shape_of_node}
+use Rattle.infer_nodes.proofs.Apart.{above_sorts, stands_at_place}
 use Rattle.infer_nodes.proofs.Ways as ways
 use Rattle.related_sorts.specs.declared.listing.Listed.{Listed}
 use Rattle.related_sorts.specs.Listed.{places}
@@ -104,7 +108,13 @@ module _ (ws ns : List ℕ) (k : Lengths) (q : NodesReady ws ns k) (up : Bool) (
     function_sort_passed d g e = by_shape (over (function_head d.count) (entries_of ws d.start d.count ++ (g.0 ∷ []))) (sort_is (SortFunction d g) e)
 
   -- a node
-  module _ (l : max_sorts ≤ p) (r : InferSort) (j : r ≡ node_at ns (p - max_sorts)) where
+  module _ (n : NodeId) (apart : TakenApart p (Node n)) {r : InferSort} (stands : r ≡ node_at ns n.0) where
+    l : max_sorts ≤ p
+    l = above_sorts p n apart
+
+    j : r ≡ node_at ns (p - max_sorts)
+    j = stands_at_place p n apart ns stands
+
     node_is : (y : InferSort) → r ≡ y → graph_of ws ns k p ≡ node_shape ns y
     node_is y e = shape_of_node ws ns k q p i l r j ∙ ap (node_shape ns) e
 

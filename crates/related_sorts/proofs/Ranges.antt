@@ -161,7 +161,10 @@ module _ (ws ns bs : List ℕ) (k : Lengths) (q : Ready ws ns bs k) where
     pub final : (kind ≡ function_kind → ⊥) → FinalRange ws ns bs k p fs (record { count = count; range = record { 0 = end } })
     final h = record { down = s.down; placed = s.placed; few = s.few; ends = λ e. h (s.is ∙ e) }
 
-    module _ (t : kind ≡ function_kind) where
+    module _ {said : Bool} (told : said ≡ eqb kind function_kind) (holds : said ≡ true) where
+      t : kind ≡ function_kind
+      t = function_told kind said told holds
+
       pub function_there : FunctionAt ws ns k end
       function_there = function_by_kind end kind s.placed s.is t
 
@@ -182,7 +185,10 @@ module _ (ws ns bs : List ℕ) (k : Lengths) (q : Ready ws ns bs k) where
         pub range_asked : NodesReady ws ns k × Placed k end × (m - 1 < length (parts_of (shape end)))
         range_asked = ends.range_asked ws ns bs k q true end (m - 1) counted.1
 
-        module _ (g : ℕ) (eg : g ≡ range_of end (m - 1)) where
+        module _ (g : ℕ) (part : m - 1 < length (parts_of (shape end)) → g ≡ range_of end (m - 1)) where
+          eg : g ≡ range_of end (m - 1)
+          eg = part range_asked.2
+
           pub range_there : Placed k g
           range_there = ends.range_placed ws ns bs k q true end (m - 1) counted.1 g eg
 

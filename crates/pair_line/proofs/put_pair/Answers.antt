@@ -1,20 +1,20 @@
 -- The first line is bad, or the second, or both are read. Assumes nothing.
-use Rattle.std.proofs.Common.{arith, sym, subst}
-use Rattle.pair_line.specs.Room.{Begun}
-use Rattle.pair_line.proofs.FixedSix.{six_begun}
+use Rattle.std.proofs.Common.{arith}
+use Rattle.pair_line.proofs.FixedSix.{begun_with_six}
 use Rattle.pair_line.proofs.Ways as law
 use Rattle.pair_line.proofs.put_pair.Goals as goal
 
 pub sort_or_put-requires : goal.sort_or_put-requires
-sort_or_put-requires c = law.begun_first _ c.args.first.now c.args.second.now (subst (λ us. Begun us 6 0 0) (sym c.put_fixed_six.ensures) (six_begun _ (omega arith))) c.args.out.now
+sort_or_put-requires c = law.begun_first _ c.args.first.now c.args.second.now (begun_with_six _ (omega arith) c.put_fixed_six.ensures) c.args.out.now
 
 pub returns-in_default : goal.returns-in_default
-returns-in_default c = law.first_bad _ _ _ (subst (λ us. Begun us 6 0 0) (sym c.put_fixed_six.ensures) (six_begun _ (omega arith))) _ c.in_default.ensures
+returns-in_default c = law.first_bad _ _ _ (begun_with_six _ (omega arith) c.put_fixed_six.ensures) _ c.in_default.ensures
 
 pub returns-in_default-sort_or_put : goal.returns-in_default-sort_or_put
-returns-in_default-sort_or_put c = law.second_bad _ _ _ (subst (λ us. Begun us 6 0 0) (sym c.put_fixed_six.ensures) (six_begun _ (omega arith))) c.args.out.now c.in-Some.ensures.0 c.in-Some.ensures.1 c.in_default-sort_or_put.ensures
+returns-in_default-sort_or_put c =
+    law.second_bad _ _ _ (begun_with_six _ (omega arith) c.put_fixed_six.ensures) c.args.out.now c.in-Some.ensures.0 c.in-Some.ensures.1 c.in_default-sort_or_put.ensures
 
 pub returns : goal.returns
 returns c =
-    law.both_put _ _ _ (subst (λ us. Begun us 6 0 0) (sym c.put_fixed_six.ensures) (six_begun _ (omega arith))) c.args.out.now c.in-Some.ensures.0 c.in-Some.ensures.1 c.in-Some-sort_or_put.ensures.0 c.in-Some-sort_or_put.ensures.1
-    c.put_answer.ensures
+    law.both_put _ _ _ (begun_with_six _ (omega arith) c.put_fixed_six.ensures) c.args.out.now c.in-Some.ensures.0 c.in-Some.ensures.1
+    c.in-Some-sort_or_put.ensures.0 c.in-Some-sort_or_put.ensures.1 c.put_answer.ensures
