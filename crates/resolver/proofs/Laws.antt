@@ -39,6 +39,8 @@ use Rattle.unification.specs.Default.{Default}
 use Rattle.std.specs.Prelude.{Some as Is, None as NoDefault}
 use Rattle.unification.specs.declared.InferSortId.{InferSortId}
 use Rattle.unification.specs.declared.SortVar.{SortVar}
+use Rattle.unification.specs.declared.NodeId.{NodeId}
+use Rattle.unification.specs.declared.Place.TheVariants.{Node}
 use Rattle.unification.specs.declared.InferSort.{InferSort}
 use Rattle.unification.specs.declared.InferSort.TheVariants.{Generic, Function, Var}
 use Rattle.unification.specs.Term.{container_head, function_head, Term, var, app, Terms, no_part, part, over}
@@ -48,6 +50,7 @@ use Rattle.unification.specs.Checked.{graph_of, Ready, Placed}
 use Rattle.unification.specs.Solutions.{terms_at}
 use Rattle.unification.specs.Resolve.{resolve_term, resolve_arguments, DefaultBelow, default_of, default_in, term_resolved, arguments_resolved, with_counts}
 use Rattle.unification.specs.Inner.Resolve.{free_sort, value_in}
+use Rattle.unification.specs.Inner.Apart.{TakenApart}
 use Rattle.unification.proofs.Exact.{size, sizes}
 use Rattle.unification.proofs.Parts.{node_runs, each_of_run}
 use Rattle.unification.proofs.Places.{sort_below}
@@ -59,6 +62,7 @@ use Rattle.unification.proofs.Resolved.{value_followed}
 use Rattle.unification.proofs.ResolvedCode as code
 use Rattle.infer_nodes.specs.Inner.Bound.{RunPlaced, BindsPass}
 use Rattle.infer_nodes.proofs.Shapes.{shape_of_variable}
+use Rattle.infer_nodes.proofs.Apart.{above_sorts, stands_at_place}
 use Rattle.infer_nodes.proofs.Ways as ways
 
 -- what was left, by what the answer was
@@ -139,7 +143,7 @@ module _ (ws ns bs : List ℕ) (k : Lengths) (q : Ready ws ns bs k) (x : Default
         (sym (ap (λ t. resolve_term X t S) (value_followed ws n e ns k.nodes k.arguments k.variables q.nodes B q.binds p end f)
         ∙ sort_place_is_found ws n e ns k.nodes k.arguments k.variables q.nodes B q.binds S (grown_none ws n e checked) X end b)))
 
-    module _ (l : max_sorts ≤ end) (r : InferSort) (j : r ≡ node_at ns (end - max_sorts)) where
+    module _ (at : NodeId) (apart : TakenApart end (Node at)) {r : InferSort} (stands : r ≡ node_at ns at.0) where
       pub variable_answers : (u : SortVar) → r ≡ Var u → (c : Counts) → c ≡ C → (w : Joined) → w ≡ free_sort c x → stored_at ws w ≡ term_resolved ws k x (val p)
       unfolding term_resolved resolve_term
       variable_answers u y c z w v =
@@ -147,7 +151,7 @@ module _ (ws ns bs : List ℕ) (k : Lengths) (q : Ready ws ns bs k) (x : Default
           ∙ (go x dx
           ∙ ap (λ t. stored ws n e (resolve_term X t S))
           (sym (code.value_of_variable ws n e ns k.nodes k.arguments k.variables q.nodes B q.binds p
-          end f u.0 (shape_of_variable ws ns k q.nodes end end_placed l r j u y))))
+          end f u.0 (shape_of_variable ws ns k q.nodes end end_placed (above_sorts end at apart) r (stands_at_place end at apart ns stands) u y))))
         where
           go : (y : Default) → DefaultBelow n y → stored_at ws (free_sort C y) ≡ stored ws n e (resolve_term (default_of (trees ws n) y) (var u.0) S)
           go (Is d) b = answer_old ws C checked d b
@@ -160,10 +164,10 @@ module _ (ws ns bs : List ℕ) (k : Lengths) (q : Ready ws ns bs k) (x : Default
         is_container : val p ≡ term
         is_container =
             code.value_of_container ws n e ns k.nodes k.arguments k.variables q.nodes B q.binds p end f
-            o s.0 (ways.generic_shape ws ns bs k q 0 p end i f l r j o s y)
+            o s.0 (ways.generic_shape ws ns bs k q 0 p end i f at apart stands o s y)
 
         pub part_placed : Placed k s.0
-        part_placed = ways.subsort_placed ws ns bs k q 0 p end i f l r j o s y
+        part_placed = ways.subsort_placed ws ns bs k q 0 p end i f at apart stands o s y
 
         pub part_falls : size (val s.0) < size (val p)
         unfolding size sizes
@@ -199,10 +203,10 @@ module _ (ws ns bs : List ℕ) (k : Lengths) (q : Ready ws ns bs k) (x : Default
 
       module _ (d : Run) (s : InferSortId) (y : r ≡ Function d s) where
         pub domain_placed : RunPlaced ns k d.start d.count
-        domain_placed = ways.run_placed ws ns bs k q 0 p end i f l r j d s y
+        domain_placed = ways.run_placed ws ns bs k q 0 p end i f at apart stands d s y
 
         pub range_placed : Placed k s.0
-        range_placed = ways.range_placed ws ns bs k q 0 p end i f l r j d s y
+        range_placed = ways.range_placed ws ns bs k q 0 p end i f at apart stands d s y
 
         abbrev args : List ℕ
         args = node_entries_of ns d.start d.count
@@ -210,7 +214,7 @@ module _ (ws ns bs : List ℕ) (k : Lengths) (q : Ready ws ns bs k) (x : Default
         pub is_function : val p ≡ app (function_head d.count) (terms_at val (args ++ (s.0 ∷ [])))
         is_function =
             code.value_of_function ws n e ns k.nodes k.arguments k.variables q.nodes B q.binds p end f args s.0
-            (ways.function_shape ws ns bs k q 0 p end i f l r j d s y ∙ ap (λ (c : ℕ). over (function_head c)
+            (ways.function_shape ws ns bs k q 0 p end i f at apart stands d s y ∙ ap (λ (c : ℕ). over (function_head c)
             (args ++ (s.0 ∷ []))) (sym (length_node_entries ns d.start d.count)))
             ∙ ap₂ (λ (c : ℕ) (ts : Terms). app (function_head c) ts) (run_count d.start d.count) (sym (code.terms_with_last val args s.0))
 

@@ -1,47 +1,46 @@
 -- A place at its end is a sort, a container of what its element is resolved to, a function of what its parts are resolved to, or a free variable.
 -- Assumes nothing.
 use Rattle.std.proofs.Common.{arith, refl, ap, ◌∙◌, Ok}
-use Rattle.unification.specs.Nodes.{node_at}
 use Rattle.infer_nodes.proofs.Apart as apart
 use Rattle.resolver.proofs.Laws as law
 use Rattle.resolver.proofs.Going as going
 use Rattle.resolver.proofs.Resolver.+resolve_resolve_function.Goals as goal
 
 pub resolve-resolve-requires : goal.resolve-resolve-requires
-resolve-resolve-requires t c = let n = apart.is_node _ _ c.in-Node.ensures _ refl in (
-  omega (arith, c.decreases, law.part_falls _ _ _ _ c.requires.0.0 c.args.self.now.default c.requires.0.1 _ _ c.requires.1 c.end.ensures n.0 _ (c.node.ensures ∙ ap (node_at c.args.self.now.nodes.now) n.1) _ _ c.in-Generic.is),
-  (c.requires.0, law.part_placed _ _ _ _ c.requires.0.0 c.args.self.now.default c.requires.0.1 _ _ c.requires.1 c.end.ensures n.0 _ (c.node.ensures ∙ ap (node_at c.args.self.now.nodes.now) n.1) _ _ c.in-Generic.is),
+resolve-resolve-requires t c = (
+  omega (arith, c.decreases, law.part_falls _ _ _ _ c.requires.0.0 c.args.self.now.default c.requires.0.1 _ _ c.requires.1 c.end.ensures _ c.in-Node.ensures c.node.ensures _ _ c.in-Generic.is),
+  (c.requires.0, law.part_placed _ _ _ _ c.requires.0.0 c.args.self.now.default c.requires.0.1 _ _ c.requires.1 c.end.ensures _ c.in-Node.ensures c.node.ensures _ _ c.in-Generic.is),
 )
 
 pub resolve-returns-in_err-subsort-in-Generic-clause-resolved : goal.resolve-returns-in_err-subsort-in-Generic-clause-resolved
-resolve-returns-in_err-subsort-in-Generic-clause-resolved t c = let n = apart.is_node _ _ c.in-Node.ensures _ refl in
+resolve-returns-in_err-subsort-in-Generic-clause-resolved t c =
     law.left_err _ _ _ c.from_residual.ensures.0
-    (law.container_ends _ _ _ _ c.requires.0.0 c.args.self.now.default c.requires.0.1 _ _ c.requires.1 c.end.ensures n.0 _ (c.node.ensures ∙ ap (node_at c.args.self.now.nodes.now) n.1) _ _ c.in-Generic.is _ _ (law.left_as _ _ _ _ c.in_err-subsort-in-Generic.was c.resolve.ensures.resolved) refl)
+    (law.container_ends _ _ _ _ c.requires.0.0 c.args.self.now.default c.requires.0.1 _ _ c.requires.1 c.end.ensures _ c.in-Node.ensures c.node.ensures _ _ c.in-Generic.is _ _ (law.left_as _ _ _ _ c.in_err-subsort-in-Generic.was c.resolve.ensures.resolved) refl)
 
 pub resolve-returns-in_default-clause-resolved : goal.resolve-returns-in_default-clause-resolved
-resolve-returns-in_default-clause-resolved t c = let n = apart.is_node _ _ c.in-Node.ensures _ refl in
-    law.container_stops _ _ _ _ c.requires.0.0 c.args.self.now.default c.requires.0.1 _ _ c.requires.1 c.end.ensures n.0 _ (c.node.ensures ∙ ap (node_at c.args.self.now.nodes.now) n.1) _ _ c.in-Generic.is _ _
+resolve-returns-in_default-clause-resolved t c =
+    law.container_stops _ _ _ _ c.requires.0.0 c.args.self.now.default c.requires.0.1 _ _ c.requires.1 c.end.ensures _ c.in-Node.ensures c.node.ensures _ _ c.in-Generic.is _ _
     (law.left_as _ _ _ _ (c.in_ok-subsort-in-Generic.was ∙ ap Ok c.in_default.is) c.resolve.ensures.resolved) _ refl
 
 pub resolve-generic-requires : goal.resolve-generic-requires
-resolve-generic-requires t c = let n = apart.is_node _ _ c.in-Node.ensures _ refl in
-    law.container_asked _ _ _ _ c.requires.0.0 c.args.self.now.default c.requires.0.1 _ _ c.requires.1 c.end.ensures n.0 _ (c.node.ensures ∙ ap (node_at c.args.self.now.nodes.now) n.1) _ _ c.in-Generic.is _ _ (law.left_as _ _ _ _ (c.in_ok-subsort-in-Generic.was ∙ ap Ok c.in-Some.is) c.resolve.ensures.resolved) _ _ refl
+resolve-generic-requires t c =
+    law.container_asked _ _ _ _ c.requires.0.0 c.args.self.now.default c.requires.0.1 _ _ c.requires.1 c.end.ensures _ c.in-Node.ensures c.node.ensures _ _ c.in-Generic.is _ _ (law.left_as _ _ _ _ (c.in_ok-subsort-in-Generic.was ∙ ap Ok c.in-Some.is) c.resolve.ensures.resolved) _ _ refl
 
 pub resolve-returns-in_err-generic-in-Generic-clause-resolved : goal.resolve-returns-in_err-generic-in-Generic-clause-resolved
-resolve-returns-in_err-generic-in-Generic-clause-resolved t c = let n = apart.is_node _ _ c.in-Node.ensures _ refl in
+resolve-returns-in_err-generic-in-Generic-clause-resolved t c =
     law.left_err _ _ _ c.from_residual-in_err-generic-in-Generic.ensures.0
-    (law.container_made _ _ _ _ c.requires.0.0 c.args.self.now.default c.requires.0.1 _ _ c.requires.1 c.end.ensures n.0 _ (c.node.ensures ∙ ap (node_at c.args.self.now.nodes.now) n.1) _ _ c.in-Generic.is _ _ (law.left_as _ _ _ _ (c.in_ok-subsort-in-Generic.was ∙ ap Ok c.in-Some.is) c.resolve.ensures.resolved) _ _ refl _ _
+    (law.container_made _ _ _ _ c.requires.0.0 c.args.self.now.default c.requires.0.1 _ _ c.requires.1 c.end.ensures _ c.in-Node.ensures c.node.ensures _ _ c.in-Generic.is _ _ (law.left_as _ _ _ _ (c.in_ok-subsort-in-Generic.was ∙ ap Ok c.in-Some.is) c.resolve.ensures.resolved) _ _ refl _ _
     (law.interned_as _ _ _ _ c.in_err-generic-in-Generic.was c.generic.ensures.interned))
 
 pub resolve-returns-in_ok-generic-in-Generic-clause-resolved : goal.resolve-returns-in_ok-generic-in-Generic-clause-resolved
-resolve-returns-in_ok-generic-in-Generic-clause-resolved t c = let n = apart.is_node _ _ c.in-Node.ensures _ refl in
-    law.container_made _ _ _ _ c.requires.0.0 c.args.self.now.default c.requires.0.1 _ _ c.requires.1 c.end.ensures n.0 _ (c.node.ensures ∙ ap (node_at c.args.self.now.nodes.now) n.1) _ _ c.in-Generic.is _ _ (law.left_as _ _ _ _ (c.in_ok-subsort-in-Generic.was ∙ ap Ok c.in-Some.is) c.resolve.ensures.resolved) _ _ refl _ _
+resolve-returns-in_ok-generic-in-Generic-clause-resolved t c =
+    law.container_made _ _ _ _ c.requires.0.0 c.args.self.now.default c.requires.0.1 _ _ c.requires.1 c.end.ensures _ c.in-Node.ensures c.node.ensures _ _ c.in-Generic.is _ _ (law.left_as _ _ _ _ (c.in_ok-subsort-in-Generic.was ∙ ap Ok c.in-Some.is) c.resolve.ensures.resolved) _ _ refl _ _
     (law.interned_as _ _ _ _ c.in_ok-generic-in-Generic.was c.generic.ensures.interned)
 
 pub resolve-resolve_function-requires : goal.resolve-resolve_function-requires
-resolve-resolve_function-requires t c = let n = apart.is_node _ _ c.in-Node.ensures _ refl in (
-  omega (arith, c.decreases, law.function_size _ _ _ _ c.requires.0.0 c.args.self.now.default c.requires.0.1 _ _ c.requires.1 c.end.ensures n.0 _ (c.node.ensures ∙ ap (node_at c.args.self.now.nodes.now) n.1) _ _ c.in-Function.is),
-  (c.requires.0, law.domain_placed _ _ _ _ c.requires.0.0 c.args.self.now.default c.requires.0.1 _ _ c.requires.1 c.end.ensures n.0 _ (c.node.ensures ∙ ap (node_at c.args.self.now.nodes.now) n.1) _ _ c.in-Function.is, law.range_placed _ _ _ _ c.requires.0.0 c.args.self.now.default c.requires.0.1 _ _ c.requires.1 c.end.ensures n.0 _ (c.node.ensures ∙ ap (node_at c.args.self.now.nodes.now) n.1) _ _ c.in-Function.is),
+resolve-resolve_function-requires t c = (
+  omega (arith, c.decreases, law.function_size _ _ _ _ c.requires.0.0 c.args.self.now.default c.requires.0.1 _ _ c.requires.1 c.end.ensures _ c.in-Node.ensures c.node.ensures _ _ c.in-Function.is),
+  (c.requires.0, law.domain_placed _ _ _ _ c.requires.0.0 c.args.self.now.default c.requires.0.1 _ _ c.requires.1 c.end.ensures _ c.in-Node.ensures c.node.ensures _ _ c.in-Function.is, law.range_placed _ _ _ _ c.requires.0.0 c.args.self.now.default c.requires.0.1 _ _ c.requires.1 c.end.ensures _ c.in-Node.ensures c.node.ensures _ _ c.in-Function.is),
 )
 
 pub resolve-returns-in-Sort-clause-resolved : goal.resolve-returns-in-Sort-clause-resolved
@@ -49,12 +48,12 @@ resolve-returns-in-Sort-clause-resolved t c = let s = apart.is_sort_lem _ _ c.in
     law.sort_found _ _ _ _ c.requires.0.0 c.args.self.now.default c.requires.0.1 _ _ c.requires.1 c.end.ensures s.0 _ s.1 _ refl
 
 pub resolve-returns-in-Function-clause-resolved : goal.resolve-returns-in-Function-clause-resolved
-resolve-returns-in-Function-clause-resolved t c = let n = apart.is_node _ _ c.in-Node.ensures _ refl in
-    c.resolve_function.ensures.resolved ∙ law.whole_function _ _ _ _ c.requires.0.0 c.args.self.now.default c.requires.0.1 _ _ c.requires.1 c.end.ensures n.0 _ (c.node.ensures ∙ ap (node_at c.args.self.now.nodes.now) n.1) _ _ c.in-Function.is
+resolve-returns-in-Function-clause-resolved t c =
+    c.resolve_function.ensures.resolved ∙ law.whole_function _ _ _ _ c.requires.0.0 c.args.self.now.default c.requires.0.1 _ _ c.requires.1 c.end.ensures _ c.in-Node.ensures c.node.ensures _ _ c.in-Function.is
 
 pub resolve-returns-in-Var-clause-resolved : goal.resolve-returns-in-Var-clause-resolved
-resolve-returns-in-Var-clause-resolved t c = let n = apart.is_node _ _ c.in-Node.ensures _ refl in
-    law.default_left_at _ _ c.args.self.now.default ∙ law.variable_answers _ _ _ _ c.requires.0.0 c.args.self.now.default c.requires.0.1 _ _ c.requires.1 c.end.ensures n.0 _ (c.node.ensures ∙ ap (node_at c.args.self.now.nodes.now) n.1) _ c.in-Var.is _ refl _ refl
+resolve-returns-in-Var-clause-resolved t c =
+    law.default_left_at _ _ c.args.self.now.default ∙ law.variable_answers _ _ _ _ c.requires.0.0 c.args.self.now.default c.requires.0.1 _ _ c.requires.1 c.end.ensures _ c.in-Node.ensures c.node.ensures _ c.in-Var.is _ refl _ refl
 
 pub resolve_function-loop-i-init : goal.resolve_function-loop-i-init
 resolve_function-loop-i-init t c = (refl, going.start _ _ _ _ _ _ _ _ (c.requires.0.0, c.requires.0.1, c.requires.1, c.requires.2))
