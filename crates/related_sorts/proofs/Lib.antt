@@ -4,3 +4,4 @@ pub mod Laws
 pub mod Ends
 pub mod Ranges
 pub mod Lent
+pub mod InArena
