@@ -4,3 +4,4 @@ pub mod Orders
 pub mod Falls
 pub mod Distances
 pub mod Materializing
+pub mod RowsRead
