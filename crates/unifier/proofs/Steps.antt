@@ -229,13 +229,13 @@ module _ (ws ns bs ts : List ℕ) (k : Lengths) (c : ℕ) (t : Trying ws ns bs t
       right_inside : i < length qs
       right_inside = omega (arith, g.alike.as_many, d)
 
-      pub left_part : Placed k l × (i < length ps)
-      left_part = (g.alike.left, left_inside)
+      module _ (x y : ℕ) (read_x : i < length ps → x ≡ get_or ps i 0) (read_y : i < length qs → y ≡ get_or qs i 0) where
+        ex : x ≡ get_or ps i 0
+        ex = read_x left_inside
 
-      pub right_part : Placed k r × (i < length qs)
-      right_part = (g.alike.right, right_inside)
+        ey : y ≡ get_or qs i 0
+        ey = read_y right_inside
 
-      module _ (x y : ℕ) (ex : x ≡ get_or ps i 0) (ey : y ≡ get_or qs i 0) where
         abbrev one_x : One x ps
         one_x = subst (λ (z : ℕ). One z ps) (sym ex) (one_at ps i left_inside)
 

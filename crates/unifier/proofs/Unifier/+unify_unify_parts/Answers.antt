@@ -77,8 +77,8 @@ unify_parts-loop-i-init t c = ((refl, refl, refl, refl, refl), law.parts_begin _
 
 pub unify_parts-unify-requires : goal.unify_parts-unify-requires
 unify_parts-unify-requires t c = (
-  omega (arith, c.decreases, work_too c.args.self.now.places c.loop-i.self.places c.loop-i.invariant.0.0 c.loop-i.self.binds.now c.loop-i.self.trail.now c.loop-i.self.count c.part-p.result.0, law.part_lower _ _ _ _ _ _ c.loop-i.invariant.1.trying _ _ _ _ _ _ _ _ c.loop-i.invariant.1 c.loop-i-test.true _ _ (c.part-p.ensures _ c.row-left.ensures (law.left_part _ _ _ _ _ _ c.loop-i.invariant.1.trying _ _ _ _ _ _ _ _ c.loop-i.invariant.1 c.loop-i-test.true).1) (c.part-q.ensures _ c.row-right.ensures (law.right_part _ _ _ _ _ _ c.loop-i.invariant.1.trying _ _ _ _ _ _ _ _ c.loop-i.invariant.1 c.loop-i-test.true).1)),
-  (can_try c.args.self.now.places c.loop-i.self.places c.loop-i.invariant.0.0 c.loop-i.self.binds.now c.loop-i.self.trail.now c.loop-i.self.count c.loop-i.invariant.1.trying, placed_too c.args.self.now.places c.loop-i.self.places c.loop-i.invariant.0.0 c.loop-i.self.binds.now c.loop-i.self.trail.now c.loop-i.self.count _ (law.left_placed _ _ _ _ _ _ c.loop-i.invariant.1.trying _ _ _ _ _ _ _ _ c.loop-i.invariant.1 c.loop-i-test.true _ _ (c.part-p.ensures _ c.row-left.ensures (law.left_part _ _ _ _ _ _ c.loop-i.invariant.1.trying _ _ _ _ _ _ _ _ c.loop-i.invariant.1 c.loop-i-test.true).1) (c.part-q.ensures _ c.row-right.ensures (law.right_part _ _ _ _ _ _ c.loop-i.invariant.1.trying _ _ _ _ _ _ _ _ c.loop-i.invariant.1 c.loop-i-test.true).1)), placed_too c.args.self.now.places c.loop-i.self.places c.loop-i.invariant.0.0 c.loop-i.self.binds.now c.loop-i.self.trail.now c.loop-i.self.count _ (law.right_placed _ _ _ _ _ _ c.loop-i.invariant.1.trying _ _ _ _ _ _ _ _ c.loop-i.invariant.1 c.loop-i-test.true _ _ (c.part-p.ensures _ c.row-left.ensures (law.left_part _ _ _ _ _ _ c.loop-i.invariant.1.trying _ _ _ _ _ _ _ _ c.loop-i.invariant.1 c.loop-i-test.true).1) (c.part-q.ensures _ c.row-right.ensures (law.right_part _ _ _ _ _ _ c.loop-i.invariant.1.trying _ _ _ _ _ _ _ _ c.loop-i.invariant.1 c.loop-i-test.true).1))),
+  omega (arith, c.decreases, work_too c.args.self.now.places c.loop-i.self.places c.loop-i.invariant.0.0 c.loop-i.self.binds.now c.loop-i.self.trail.now c.loop-i.self.count c.part-p.result.0, law.part_lower _ _ _ _ _ _ c.loop-i.invariant.1.trying _ _ _ _ _ _ _ _ c.loop-i.invariant.1 c.loop-i-test.true _ _ (c.part-p.ensures _ c.row-left.ensures) (c.part-q.ensures _ c.row-right.ensures)),
+  (can_try c.args.self.now.places c.loop-i.self.places c.loop-i.invariant.0.0 c.loop-i.self.binds.now c.loop-i.self.trail.now c.loop-i.self.count c.loop-i.invariant.1.trying, placed_too c.args.self.now.places c.loop-i.self.places c.loop-i.invariant.0.0 c.loop-i.self.binds.now c.loop-i.self.trail.now c.loop-i.self.count _ (law.left_placed _ _ _ _ _ _ c.loop-i.invariant.1.trying _ _ _ _ _ _ _ _ c.loop-i.invariant.1 c.loop-i-test.true _ _ (c.part-p.ensures _ c.row-left.ensures) (c.part-q.ensures _ c.row-right.ensures)), placed_too c.args.self.now.places c.loop-i.self.places c.loop-i.invariant.0.0 c.loop-i.self.binds.now c.loop-i.self.trail.now c.loop-i.self.count _ (law.right_placed _ _ _ _ _ _ c.loop-i.invariant.1.trying _ _ _ _ _ _ _ _ c.loop-i.invariant.1 c.loop-i-test.true _ _ (c.part-p.ensures _ c.row-left.ensures) (c.part-q.ensures _ c.row-right.ensures))),
 )
 
 pub unify_parts-loop-i-preserved : goal.unify_parts-loop-i-preserved
@@ -90,12 +90,12 @@ unify_parts-loop-i-preserved t c = (
     c.unify.ensures.keeps.3 ∙ c.loop-i.invariant.0.3,
     c.unify.ensures.keeps.4 ∙ c.loop-i.invariant.0.4,
   ),
-  law.parts_go_on _ _ _ _ _ _ c.loop-i.invariant.1.trying _ _ _ _ _ _ _ _ c.loop-i.invariant.1 c.loop-i-test.true _ _ (c.part-p.ensures _ c.row-left.ensures (law.left_part _ _ _ _ _ _ c.loop-i.invariant.1.trying _ _ _ _ _ _ _ _ c.loop-i.invariant.1 c.loop-i-test.true).1) (c.part-q.ensures _ c.row-right.ensures (law.right_part _ _ _ _ _ _ c.loop-i.invariant.1.trying _ _ _ _ _ _ _ _ c.loop-i.invariant.1 c.loop-i-test.true).1) _ _ _ _ c.if-not-unify.false (leaves_too c.args.self.now.places c.loop-i.self.places c.loop-i.invariant.0.0 c.loop-i.self.binds.now c.loop-i.self.trail.now c.loop-i.self.count _ _ _ _ _ _ c.unify.ensures.leaves) c.unify.ensures.keeps.3 c.unify.ensures.keeps.4,
+  law.parts_go_on _ _ _ _ _ _ c.loop-i.invariant.1.trying _ _ _ _ _ _ _ _ c.loop-i.invariant.1 c.loop-i-test.true _ _ (c.part-p.ensures _ c.row-left.ensures) (c.part-q.ensures _ c.row-right.ensures) _ _ _ _ c.if-not-unify.false (leaves_too c.args.self.now.places c.loop-i.self.places c.loop-i.invariant.0.0 c.loop-i.self.binds.now c.loop-i.self.trail.now c.loop-i.self.count _ _ _ _ _ _ c.unify.ensures.leaves) c.unify.ensures.keeps.3 c.unify.ensures.keeps.4,
 )
 
 pub unify_parts-returns-then-not-unify-clause-leaves : goal.unify_parts-returns-then-not-unify-clause-leaves
 unify_parts-returns-then-not-unify-clause-leaves t c =
-    law.part_fails _ _ _ _ _ _ c.loop-i.invariant.1.trying _ _ _ _ _ _ _ _ c.loop-i.invariant.1 c.loop-i-test.true _ _ (c.part-p.ensures _ c.row-left.ensures (law.left_part _ _ _ _ _ _ c.loop-i.invariant.1.trying _ _ _ _ _ _ _ _ c.loop-i.invariant.1 c.loop-i-test.true).1) (c.part-q.ensures _ c.row-right.ensures (law.right_part _ _ _ _ _ _ c.loop-i.invariant.1.trying _ _ _ _ _ _ _ _ c.loop-i.invariant.1 c.loop-i-test.true).1) _ _ _ _ c.if-not-unify.true (leaves_too c.args.self.now.places c.loop-i.self.places c.loop-i.invariant.0.0 c.loop-i.self.binds.now c.loop-i.self.trail.now c.loop-i.self.count _ _ _ _ _ _ c.unify.ensures.leaves)
+    law.part_fails _ _ _ _ _ _ c.loop-i.invariant.1.trying _ _ _ _ _ _ _ _ c.loop-i.invariant.1 c.loop-i-test.true _ _ (c.part-p.ensures _ c.row-left.ensures) (c.part-q.ensures _ c.row-right.ensures) _ _ _ _ c.if-not-unify.true (leaves_too c.args.self.now.places c.loop-i.self.places c.loop-i.invariant.0.0 c.loop-i.self.binds.now c.loop-i.self.trail.now c.loop-i.self.count _ _ _ _ _ _ c.unify.ensures.leaves)
 
 pub unify_parts-returns-clause-leaves : goal.unify_parts-returns-clause-leaves
 unify_parts-returns-clause-leaves t c = law.all_parts _ _ _ _ _ _ c.loop-i.invariant.1.trying _ _ _ _ _ _ _ _ c.loop-i.invariant.1 c.loop-i-test.false
