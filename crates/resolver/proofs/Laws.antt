@@ -69,6 +69,10 @@ use Rattle.infer_nodes.proofs.Ways as ways
 pub left_as : (ws : List ℕ) (K : Counts) (a b : Result (Found SortId) NoRoomLeft) {T : Stored} → a ≡ b → left_at ws K a ≡ T → left_at ws K b ≡ T
 left_as ws K a b {T} e = subst (λ r. left_at ws K r ≡ T) e
 
+pub found_as : (ws : List ℕ) (K : Counts) (a : Result (Found SortId) NoRoomLeft) {x y : Found SortId} {T : Stored} → a ≡ Ok x → x ≡ y
+    → left_at ws K a ≡ T → left_at ws K (Ok y) ≡ T
+found_as ws K a {x} {y} e f = left_as ws K a (Ok y) (e ∙ ap Ok f)
+
 pub interned_as : (ws : List ℕ) (K : Counts) (a b : Result SortId NoRoomLeft) {T : Stored} → a ≡ b → interned_at ws K a ≡ T → interned_at ws K b ≡ T
 interned_as ws K a b {T} e = subst (λ r. interned_at ws K r ≡ T) e
 

@@ -1,6 +1,6 @@
 -- A place at its end is a sort, a container of what its element is resolved to, a function of what its parts are resolved to, or a free variable.
 -- Assumes nothing.
-use Rattle.std.proofs.Common.{arith, refl, ap, ◌∙◌, Ok}
+use Rattle.std.proofs.Common.{arith, refl, ◌∙◌}
 use Rattle.infer_nodes.proofs.Apart as apart
 use Rattle.resolver.proofs.Laws as law
 use Rattle.resolver.proofs.Going as going
@@ -20,21 +20,21 @@ resolve-returns-in_err-subsort-in-Generic-clause-resolved t c =
 pub resolve-returns-in_default-clause-resolved : goal.resolve-returns-in_default-clause-resolved
 resolve-returns-in_default-clause-resolved t c =
     law.container_stops _ _ _ _ c.requires.0.0 c.args.self.now.default c.requires.0.1 _ _ c.requires.1 c.end.ensures _ c.in-Node.ensures c.node.ensures _ _ c.in-Generic.is _ _
-    (law.left_as _ _ _ _ (c.in_ok-subsort-in-Generic.was ∙ ap Ok c.in_default.is) c.resolve.ensures.resolved) _ refl
+    (law.found_as _ _ _ c.in_ok-subsort-in-Generic.was c.in_default.is c.resolve.ensures.resolved) _ refl
 
 pub resolve-generic-requires : goal.resolve-generic-requires
 resolve-generic-requires t c =
-    law.container_asked _ _ _ _ c.requires.0.0 c.args.self.now.default c.requires.0.1 _ _ c.requires.1 c.end.ensures _ c.in-Node.ensures c.node.ensures _ _ c.in-Generic.is _ _ (law.left_as _ _ _ _ (c.in_ok-subsort-in-Generic.was ∙ ap Ok c.in-Some.is) c.resolve.ensures.resolved) _ _ refl
+    law.container_asked _ _ _ _ c.requires.0.0 c.args.self.now.default c.requires.0.1 _ _ c.requires.1 c.end.ensures _ c.in-Node.ensures c.node.ensures _ _ c.in-Generic.is _ _ (law.found_as _ _ _ c.in_ok-subsort-in-Generic.was c.in-Some.is c.resolve.ensures.resolved) _ _ refl
 
 pub resolve-returns-in_err-generic-in-Generic-clause-resolved : goal.resolve-returns-in_err-generic-in-Generic-clause-resolved
 resolve-returns-in_err-generic-in-Generic-clause-resolved t c =
     law.left_err _ _ _ c.from_residual-in_err-generic-in-Generic.ensures.0
-    (law.container_made _ _ _ _ c.requires.0.0 c.args.self.now.default c.requires.0.1 _ _ c.requires.1 c.end.ensures _ c.in-Node.ensures c.node.ensures _ _ c.in-Generic.is _ _ (law.left_as _ _ _ _ (c.in_ok-subsort-in-Generic.was ∙ ap Ok c.in-Some.is) c.resolve.ensures.resolved) _ _ refl _ _
+    (law.container_made _ _ _ _ c.requires.0.0 c.args.self.now.default c.requires.0.1 _ _ c.requires.1 c.end.ensures _ c.in-Node.ensures c.node.ensures _ _ c.in-Generic.is _ _ (law.found_as _ _ _ c.in_ok-subsort-in-Generic.was c.in-Some.is c.resolve.ensures.resolved) _ _ refl _ _
     (law.interned_as _ _ _ _ c.in_err-generic-in-Generic.was c.generic.ensures.interned))
 
 pub resolve-returns-in_ok-generic-in-Generic-clause-resolved : goal.resolve-returns-in_ok-generic-in-Generic-clause-resolved
 resolve-returns-in_ok-generic-in-Generic-clause-resolved t c =
-    law.container_made _ _ _ _ c.requires.0.0 c.args.self.now.default c.requires.0.1 _ _ c.requires.1 c.end.ensures _ c.in-Node.ensures c.node.ensures _ _ c.in-Generic.is _ _ (law.left_as _ _ _ _ (c.in_ok-subsort-in-Generic.was ∙ ap Ok c.in-Some.is) c.resolve.ensures.resolved) _ _ refl _ _
+    law.container_made _ _ _ _ c.requires.0.0 c.args.self.now.default c.requires.0.1 _ _ c.requires.1 c.end.ensures _ c.in-Node.ensures c.node.ensures _ _ c.in-Generic.is _ _ (law.found_as _ _ _ c.in_ok-subsort-in-Generic.was c.in-Some.is c.resolve.ensures.resolved) _ _ refl _ _
     (law.interned_as _ _ _ _ c.in_ok-generic-in-Generic.was c.generic.ensures.interned)
 
 pub resolve-resolve_function-requires : goal.resolve-resolve_function-requires
@@ -67,17 +67,17 @@ resolve_function-resolve-requires t c = let r = going.argument_ready _ _ _ _ _ _
 pub resolve_function-returns-in_err-id-clause-resolved : goal.resolve_function-returns-in_err-id-clause-resolved
 resolve_function-returns-in_err-id-clause-resolved t c =
     law.left_err _ _ _ c.from_residual.ensures.0
-    (going.argument_ends _ _ _ _ _ _ _ _ _ _ _ _ c.loop-i.invariant.1 c.loop-i-test.true _ c.argument-next.ensures _ _ (law.left_as _ _ _ _ (c.in_err-id.was) c.resolve.ensures.resolved) refl)
+    (going.argument_ends _ _ _ _ _ _ _ _ _ _ _ _ c.loop-i.invariant.1 c.loop-i-test.true _ c.argument-next.ensures _ _ (law.left_as _ _ _ _ c.in_err-id.was c.resolve.ensures.resolved) refl)
 
 pub resolve_function-returns-in_default-clause-resolved : goal.resolve_function-returns-in_default-clause-resolved
 resolve_function-returns-in_default-clause-resolved t c =
     going.argument_stops _ _ _ _ _ _ _ _ _ _ _ _ c.loop-i.invariant.1 c.loop-i-test.true _ c.argument-next.ensures _ _
-    (law.left_as _ _ _ _ (c.in_ok-id.was ∙ ap Ok c.in_default.is) c.resolve.ensures.resolved) _ refl
+    (law.found_as _ _ _ c.in_ok-id.was c.in_default.is c.resolve.ensures.resolved) _ refl
 
 pub resolve_function-loop-i-preserved : goal.resolve_function-loop-i-preserved
 resolve_function-loop-i-preserved t c = (
   c.resolve.ensures.same_reference ∙ c.loop-i.invariant.0,
-  going.next _ _ _ _ _ _ _ _ _ _ _ _ c.loop-i.invariant.1 c.loop-i-test.true _ c.argument-next.ensures _ _ (law.left_as _ _ _ _ (c.in_ok-id.was ∙ ap Ok c.in-Some.is) c.resolve.ensures.resolved) _ _ refl _ refl,
+  going.next _ _ _ _ _ _ _ _ _ _ _ _ c.loop-i.invariant.1 c.loop-i-test.true _ c.argument-next.ensures _ _ (law.found_as _ _ _ c.in_ok-id.was c.in-Some.is c.resolve.ensures.resolved) _ _ refl _ refl,
 )
 
 pub resolve_function-resolve-requires-2 : goal.resolve_function-resolve-requires-2
@@ -89,23 +89,23 @@ resolve_function-resolve-requires-2 t c = let r = going.range_ready _ _ _ _ _ _ 
 pub resolve_function-returns-in_err-range-clause-resolved : goal.resolve_function-returns-in_err-range-clause-resolved
 resolve_function-returns-in_err-range-clause-resolved t c =
     law.left_err _ _ _ c.from_residual-in_err-range.ensures.0
-    (going.range_ends _ _ _ _ _ _ _ _ _ _ _ _ c.loop-i.invariant.1 c.loop-i-test.false _ _ (law.left_as _ _ _ _ (c.in_err-range.was) c.resolve-2.ensures.resolved) refl)
+    (going.range_ends _ _ _ _ _ _ _ _ _ _ _ _ c.loop-i.invariant.1 c.loop-i-test.false _ _ (law.left_as _ _ _ _ c.in_err-range.was c.resolve-2.ensures.resolved) refl)
 
 pub resolve_function-returns-in_default-2-clause-resolved : goal.resolve_function-returns-in_default-2-clause-resolved
 resolve_function-returns-in_default-2-clause-resolved t c =
     going.range_stops _ _ _ _ _ _ _ _ _ _ _ _ c.loop-i.invariant.1 c.loop-i-test.false _ _
-    (law.left_as _ _ _ _ (c.in_ok-range.was ∙ ap Ok c.in_default-2.is) c.resolve-2.ensures.resolved) _ refl
+    (law.found_as _ _ _ c.in_ok-range.was c.in_default-2.is c.resolve-2.ensures.resolved) _ refl
 
 pub resolve_function-function-requires : goal.resolve_function-function-requires
-resolve_function-function-requires t c = going.function_asked _ _ _ _ _ _ _ _ _ _ _ _ c.loop-i.invariant.1 c.loop-i-test.false _ _ (law.left_as _ _ _ _ (c.in_ok-range.was ∙ ap Ok c.in-Some-2.is) c.resolve-2.ensures.resolved) _ _ refl
+resolve_function-function-requires t c = going.function_asked _ _ _ _ _ _ _ _ _ _ _ _ c.loop-i.invariant.1 c.loop-i-test.false _ _ (law.found_as _ _ _ c.in_ok-range.was c.in-Some-2.is c.resolve-2.ensures.resolved) _ _ refl
 
 pub resolve_function-returns-in_err-function-clause-resolved : goal.resolve_function-returns-in_err-function-clause-resolved
 resolve_function-returns-in_err-function-clause-resolved t c =
     law.left_err _ _ _ c.from_residual-in_err-function.ensures.0
-    (going.function_made _ _ _ _ _ _ _ _ _ _ _ _ c.loop-i.invariant.1 c.loop-i-test.false _ _ (law.left_as _ _ _ _ (c.in_ok-range.was ∙ ap Ok c.in-Some-2.is) c.resolve-2.ensures.resolved) _ _ refl _ _
+    (going.function_made _ _ _ _ _ _ _ _ _ _ _ _ c.loop-i.invariant.1 c.loop-i-test.false _ _ (law.found_as _ _ _ c.in_ok-range.was c.in-Some-2.is c.resolve-2.ensures.resolved) _ _ refl _ _
     (law.interned_as _ _ _ _ c.in_err-function.was c.function.ensures.interned))
 
 pub resolve_function-returns-clause-resolved : goal.resolve_function-returns-clause-resolved
 resolve_function-returns-clause-resolved t c =
-    going.function_made _ _ _ _ _ _ _ _ _ _ _ _ c.loop-i.invariant.1 c.loop-i-test.false _ _ (law.left_as _ _ _ _ (c.in_ok-range.was ∙ ap Ok c.in-Some-2.is) c.resolve-2.ensures.resolved) _ _ refl _ _
+    going.function_made _ _ _ _ _ _ _ _ _ _ _ _ c.loop-i.invariant.1 c.loop-i-test.false _ _ (law.found_as _ _ _ c.in_ok-range.was c.in-Some-2.is c.resolve-2.ensures.resolved) _ _ refl _ _
     (law.interned_as _ _ _ _ c.in_ok-function.was c.function.ensures.interned)
