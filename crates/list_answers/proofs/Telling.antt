@@ -1,4 +1,4 @@
--- An answer told by its case, and what is left after asking and telling. Assumes nothing.
+-- What a call leaves can be told, and where the told slices lie. Assumes nothing.
 use mathlib.Core.Path.{◌≡◌, refl, sym, ◌∙◌, ap, subst}
 use mathlib.Core.List.{List}
 use Prim.Native.Nat.{ℕ}

@@ -21,7 +21,7 @@ use Rattle.sort_writer.specs.Inner.Sizes.{most_size, size_if, sized, sizes_to, r
 use Rattle.sort_writer.proofs.Sizes.{capped_short, capped_long, text_some}
 use Rattle.sort_writer.proofs.Fills.{sizes_right}
 use Rattle.list_verdict.specs.Words.{verdict_messages, message}
-use Rattle.list_verdict.specs.Text.{name, sort_name, short, sort_text}
+use Rattle.list_verdict.specs.Text.{name, sort_name, short}
 use Rattle.list_verdict.specs.Inner.Room.{SizesOf}
 
 -- codes and names of sorts
@@ -112,7 +112,3 @@ module _ (ws : List ℕ) (k : Counts) (zs : List ℕ) (s : ℕ) (q : SizesOf ws 
             let f : ◌≡◌ {A = Bool} true false = sym e ∙ ap short (get_or-eq_default (trees ws k.sorts) (flat unit) (omega (arith, length_trees ws k.sorts))) in
             no_confusion cc
         go (no p) = omega arith
-
-    pub is_text : text (tree_at ws k.sorts s) ≡ sort_text ws k.sorts s
-    unfolding sort_text
-    is_text = rw e

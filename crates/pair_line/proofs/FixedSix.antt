@@ -14,7 +14,7 @@ use Rattle.resolved_sort.specs.Interning.{member, distinct}
 use Rattle.resolved_sort.specs.Storage.{full_length, kind_at, part_at, start_at, count_at, words_at, trees, resolved, fixed_sorts, fixed_rows}
 use Rattle.resolved_sort.specs.Checks.{all_below, fixed_six, parts_below, row_fine_of, rows_fine, no_two_equal}
 use Rattle.sort_text.specs.Postfix.{sixth}
-use Rattle.sort_text.proofs.Readable.{and_both}
+use Rattle.std.proofs.lemmas.Bool.{and_from}
 use Rattle.sort_reader.proofs.Entry.{tree_of_six}
 use Rattle.pair_line.specs.Room.{Begun}
 
@@ -110,7 +110,7 @@ module _ (ws : List ℕ) (l : full_length ≤ length ws) where
   row_fine k h =
       ap (λ x. leb x 13 && parts_below (fixed_rows 0 fixed_sorts ws) 0 k (resolved x (part_at (fixed_rows 0 fixed_sorts ws) k)
       (record { start = start_at (fixed_rows 0 fixed_sorts ws) k; count = count_at (fixed_rows 0 fixed_sorts ws) k }))) (kinds k h)
-      ∙ and_both (leb k 13) _ (le-leb k 13 (omega (arith, h))) (fine_at k k (part_at (fixed_rows 0 fixed_sorts ws) k) (fixed_rows 0 fixed_sorts ws) h
+      ∙ and_from (leb k 13) _ (le-leb k 13 (omega (arith, h))) (fine_at k k (part_at (fixed_rows 0 fixed_sorts ws) k) (fixed_rows 0 fixed_sorts ws) h
       (record { start = start_at (fixed_rows 0 fixed_sorts ws) k; count = count_at (fixed_rows 0 fixed_sorts ws) k }))
 
   all_fine : rows_fine (fixed_rows 0 fixed_sorts ws) 6 0 ≡ true

@@ -17,7 +17,7 @@ use Rattle.resolved_sort.specs.Rows.{Checked}
 use Rattle.resolved_sort.proofs.Trees.{length_trees}
 use Rattle.resolved_sort.specs.Growing.{Grown}
 use Rattle.resolved_sort.proofs.Unchanged.{longer, unchanged, look_unchanged}
-use Rattle.sort_text.proofs.Readable.{and_both}
+use Rattle.std.proofs.lemmas.Bool.{and_from}
 use Rattle.sort_text.proofs.Sizes.{Spent}
 use Rattle.pair_line.specs.Room.{Begun}
 use Rattle.pair_line.specs.Inner.Room.{RoomGrows}
@@ -44,7 +44,7 @@ module _ (ws : List ℕ) (n e : ℕ) (c : Checked ws n e) (S : Sorts) (g : Grown
   six_stays h =
       let a = (and-eq-true_iff (leb 6 n) (all_below 6 (λ i. eqb (kind_at ws i) i))).0 h in
       let l = leb-true 6 n a.0 in
-      and_both (leb 6 (length S.trees)) _ (le-leb 6 (length S.trees) (omega (arith, l, longer ws n e c S g))) (same_kinds 6 l ∙ a.1)
+      and_from (leb 6 (length S.trees)) _ (le-leb 6 (length S.trees) (omega (arith, l, longer ws n e c S g))) (same_kinds 6 l ∙ a.1)
 
   begun_on : (m : ℕ) → Begun ws n e m → Begun (after ws n e S) (length S.trees) (max_entries - S.entries) (m + 200)
   begun_on m b = record {

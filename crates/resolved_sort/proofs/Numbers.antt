@@ -8,6 +8,7 @@ use native.Mathlib.Omega.{arith}
 use native.Mathlib.Numerals.{add-one}
 use lib.ListN.{length, get_or-append}
 use borrow.Author.Tests.{not-true}
+use Rattle.std.proofs.lemmas.Bool.{or_right, or_parts}
 use Rattle.resolved_sort.specs.Tree.{Tree, flat, unit, same}
 use Rattle.resolved_sort.specs.Interning.{look, number, member, distinct}
 use Rattle.resolved_sort.specs.Rows.{first_from}
@@ -51,10 +52,6 @@ unfolding number member
 number_past [] t e = refl
 number_past (s ∷ T) t e = past_step (same s t) (number T t) (length T) (member T t) e (number_past T t)
 
-or_right : (b c : Bool) → c ≡ true → (b || c) ≡ true
-or_right true c e = refl
-or_right false c e = e
-
 -- what stands in the list is a member
 pub member_look : (T : List Tree) (i : ℕ) → i < length T → member T (look T i) ≡ true
 unfolding look member
@@ -81,10 +78,6 @@ pub look_injective : (T : List Tree) (i j : ℕ) → distinct T ≡ true → i <
 look_injective T i j d h k e = sym (number_look T i d h) ∙ (ap (number T) e ∙ number_look T j d k)
 
 -- longer lists
-or_cases : (b c : Bool) → (b || c) ≡ false → (b ≡ false) × (c ≡ false)
-or_cases true c e = absurd (true_not_false true refl e)
-or_cases false c e = (refl, e)
-
 grow_step : (b m n : Bool) → (b || m) ≡ true → (m ≡ true → n ≡ true) → (b || n) ≡ true
 grow_step true m n e h = refl
 grow_step false m n e h = h e
@@ -110,7 +103,7 @@ look_grows T U i h = get_or-append T U (flat unit) i h
 pub member_snoc : (T : List Tree) (s t : Tree) → member T t ≡ false → same s t ≡ false → member (T ++ (s ∷ [])) t ≡ false
 unfolding member
 member_snoc [] s t m e = rw e
-member_snoc (r ∷ T) s t m e = let h = or_cases (same r t) (member T t) m in rw (h.0, member_snoc T s t h.1 e)
+member_snoc (r ∷ T) s t m e = let h = or_parts (same r t) (member T t) m in rw (h.0, member_snoc T s t h.1 e)
 
 pub same_sym : (s t : Tree) → same s t ≡ false → same t s ≡ false
 same_sym s t e = go (same t s) refl
@@ -135,7 +128,7 @@ unfolding distinct member
 distinct_snoc [] t d m = refl
 distinct_snoc (s ∷ T) t d m =
     let p = (and-eq-true_iff (not (member T s)) (distinct T)).0 d in
-    let h = or_cases (same s t) (member T t) m in
+    let h = or_parts (same s t) (member T t) m in
     rw (member_snoc T t s (not-true (member T s) p.0) (same_sym s t h.0), distinct_snoc T t p.1 h.1)
 
 -- a number is the first place of the list that a test finds, where the test finds exactly the places of the sort

@@ -76,9 +76,6 @@ module _ (ns bs : List ℕ) (x : Default) (s m g : ℕ) (ws₀ : List ℕ) (k₀
     left : 0 < m - i
     left = omega (arith, h)
 
-    pub number_fits : s + i < 65536
-    number_fits = omega (arith, h, G.entered.2.inside, G.entered.0.nodes.entries)
-
     module _ (a : ℕ) (ea : a ≡ node_entry_at ns (s + i)) where
       pub argument_ready : Ready ws ns bs k × DefaultBelow k.sorts x × Placed k a
       argument_ready = (G.ready.0, G.ready.1, law.first_placed ws ns bs k G.ready.0 x G.ready.1 (s + i) (m - i) i G.ready.2 (sort_numbers ids) left a ea)

@@ -90,9 +90,6 @@ module _ (ns bs ls : List ℕ) (s m : ℕ) (ws₀ ids₀ : List ℕ) (k₀ : Len
   ready = ready_grown W₀ W bs G.entered.ready G.grown.grows
 
   module _ (h : i < m) where
-    pub number_fits : s + i < 65536
-    number_fits = omega (arith, h, G.entered.inside)
-
     module _ (p : ℕ) (e : p ≡ source_at ls (s + i)) where
       pub source_ready : Ready ws ns bs k × Placed k p
       source_ready = (

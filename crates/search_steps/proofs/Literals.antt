@@ -113,14 +113,6 @@ module _ (k : LitKind) (s : Sort) (r : Answer ℕ) (e : r ≡ generality s) wher
   pub zero_is_not_pos : r ≡ Some 0 → k ≡ Natural → Other ≡ lit_number (lit_component k s)
   zero_is_not_pos q i = ap (λ (x : LitKind). lit_of x (Some 0)) (sym i) ∙ lit_by (Some 0) q
 
-pub other_row : (kind : LitKind) (r : ResolvedSort) → ((s : Sort) → r ≡ Primitive s → ⊥) → Other ≡ lit_row kind r
-other_row kind UnitRow n = refl
-other_row kind (Primitive s) n = absurd (n s refl)
-other_row kind (Container o s) n = refl
-other_row kind (SortFunction d g) n = refl
-other_row kind (Def n) m = refl
-other_row kind (TypeVar n) m = refl
-
 row_by_shape : (kind : LitKind) (ws : List ℕ) (r : ResolvedSort) → lit_row kind r ≡ lit_shape kind (sort_shape ws r)
 unfolding sort_shape
 row_by_shape kind ws UnitRow = refl

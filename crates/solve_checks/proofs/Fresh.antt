@@ -79,9 +79,6 @@ module _ (whole : List ℕ) where
     pub size : length seen ≡ max_exprs
     pub left_over : fresh_from (replicate max_exprs false) whole ≡ fresh_from seen rest
 
-  begin : (rest : List ℕ) → rest ≡ whole → Marking (replicate max_exprs false) rest
-  begin rest e = record { size = length-replicate max_exprs false; left_over = ap (fresh_from (replicate max_exprs false)) (sym e) }
-
   module _ (seen : List Bool) (rest : List ℕ) (p : Marking seen rest) where
     end : all_under max_exprs whole ≡ true → rest ≡ [] → true ≡ no_two whole
     unfolding fresh_from

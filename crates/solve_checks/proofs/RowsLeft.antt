@@ -12,14 +12,11 @@ use Rattle.inference.specs.declared.Constraint.{Constraint}
 use Rattle.inference.specs.declared.Constraint.TheVariants.{Sub, Lit, Disjunction, Comprehension, Join}
 use Rattle.inference.specs.Constraints.{rows_from}
 use Rattle.inference.specs.SolveChecks.{has_sources, joins_fine, components_of, components, disjunction_for, disjunctions}
-use Rattle.inference.proofs.Members.{rows_all_left, rows_one_left, rows_none_left}
+use Rattle.inference.proofs.Members.{rows_one_left, rows_none_left}
 
 module _ {A : Type 0} (row : ℕ → A) (n : ℕ) where
   abbrev pub left : ℕ → List A
   left i = rows_from row i (n - i)
-
-  pub all_left : left 0 ≡ rows_from row 0 n
-  all_left = rows_all_left row n
 
   pub one_left : (i : ℕ) → i < n → left i ≡ row i ∷ left (i + 1)
   one_left = rows_one_left row n

@@ -17,12 +17,10 @@ use Rattle.inference.specs.SolveEntry.{Solved, SolveLeft, solve_entry, problem_o
 use Rattle.search_state.specs.declared.Search.{Search}
 use Rattle.search_state.specs.declared.Sizes.{Sizes}
 use Rattle.search_state.specs.declared.Branch.{Branch}
-use Rattle.search_state.specs.Inner.States.{Answer}
-use Rattle.search_state.specs.Inner.States.{Found, Missed, Full as Ended}
 use Rattle.search_state.specs.declared.Next.TheVariants.{Solve}
 use Rattle.search_state.specs.Inner.Memory.{problem_words, problem_in, path_of, world_of, out_of, solve_from}
-use Rattle.search_state.specs.Inner.Searching.{SearchGrown, Searching as SearchingIn, Done}
-use Rattle.search_state.specs.Inner.Solving.{Given as GivenTo, Searching, Comes, lent_of, state_of, answer_of}
+use Rattle.search_state.specs.Inner.Searching.{Searching as SearchingIn, Done}
+use Rattle.search_state.specs.Inner.Solving.{Given as GivenTo, Searching, Comes, state_of, answer_of}
 use Rattle.problem_words.specs.Inner.Packed.{Packable, problem_from}
 use Rattle.solve_checks.specs.declared.Problem.{Problem}
 use Rattle.solve_checks.specs.Inner.Calls.{call_for}
@@ -41,9 +39,6 @@ use Rattle.solve_entries.specs.Inner.Searched.{comes_to, settled_from}
 
 -- The search from nothing, and what comes after it.
 module _ (s : Search) (S : Searching s nothing_taken 0 [] (Solve 0)) (e : Branch) (p : e ≡ nothing_taken) where
-  pub starts : Searching s e 0 [] (Solve 0)
-  starts = subst (λ (y : Branch). Searching s y 0 [] (Solve 0)) (sym p) S
-
   module _ (u : Search) (r : Result Bool Full) (d : Comes s e (λ ls z. solve_from ls z 0) u r) where
     from_nothing : Done s.lists.now s.sizes s.sorts.now s.nodes.now s.binds.now s.scratch.now (state_of s) nothing_taken (comes_to s)
         u.sorts.now u.nodes.now u.binds.now u.scratch.now (answer_of (state_of u) r)
@@ -52,12 +47,6 @@ module _ (s : Search) (S : Searching s nothing_taken 0 [] (Solve 0)) (e : Branch
         (solve_from s.lists.now s.sizes 0 (path_of s.lists.now s.sizes (binds_of s.binds.now s.lengths.variables) s.scratch.now y)
         (world_of s.lists.now s.sizes s.sorts.now s.nodes.now s.scratch.now (state_of s)))
         u.sorts.now u.nodes.now u.binds.now u.scratch.now (answer_of (state_of u) r)) p d.comes
-
-    as_long : (o : Answer) → SearchGrown (lent_of s) u.sorts.now u.nodes.now o
-        → (length u.sorts.now ≡ length s.sorts.now) × (length u.nodes.now ≡ length s.nodes.now)
-    as_long (Found k) g = g.grows.as_long
-    as_long (Missed k) g = g.grows.as_long
-    as_long (Ended c k) g = g.as_long
 
     pub search_left : (names : List BaseName) (h : Handout) (L : SolveLeft)
         → L ≡ solve_left_by s.lengths u.nodes.now u.binds.now u.scratch.now (settling u names h s.lengths r)

@@ -1,7 +1,7 @@
 -- What the reads and writes of the list program come to: line after line, and the end. Assumes nothing.
 use mathlib.Core.Path.{◌≡◌, refl, sym, ◌∙◌, ap, ap₂, subst}
 use mathlib.Core.Bool.{Bool}
-use mathlib.Core.List.{List, [], ◌++◌, append_assoc, append-nil}
+use mathlib.Core.List.{List, [], ◌++◌, append_assoc}
 use Prim.Native.Nat.{ℕ, ◌+◌, ◌<◌, ◌≤◌}
 use native.Mathlib.Omega.{arith}
 use lib.ListN.{length, take, drop}
@@ -27,11 +27,6 @@ use Rattle.list_lines.specs.Lines.{unasked_text, printed, numbered, LineLeft, li
 use Rattle.list_lines.specs.Longest.{printed_room, held_line}
 use Rattle.list_lines.proofs.Longest.{printed_fits, end_fits}
 use Rattle.solve_lists.specs.Printed.{number_text, line_printed, all_printed}
-
--- known bytes
-nothing_shown : (a : Option (List ℕ)) → Appends a a []
-nothing_shown None = tt
-nothing_shown (Some xs) = sym (append-nil xs)
 
 pub shown_more : (a b c : Option (List ℕ)) (bs cs : List ℕ) → Appends a b bs → Appends b c cs → Appends a c (bs ++ cs)
 shown_more None b c bs cs p q = tt

@@ -17,23 +17,21 @@ use Rattle.unification.specs.Full.{refusal_of}
 use Rattle.inference.specs.declared.Verdict.TheVariants.{NoTyping, Ambiguous, Typing}
 use Rattle.inference.specs.Constraints.{constraint_at, BaseName}
 use Rattle.inference.specs.SolveChecks.{disjunctions, components}
-use Rattle.inference.specs.SolveEntry.{Solved, typing_rows, choice_rows, written_over, room_refusal}
+use Rattle.inference.specs.SolveEntry.{typing_rows, choice_rows, written_over, room_refusal}
 use Rattle.inference.proofs.Members.{rows_all_left}
 use Rattle.search_state.specs.declared.Sizes.{Sizes}
 use Rattle.search_state.specs.declared.Incumbent.{Incumbent}
 use Rattle.search_state.specs.declared.Search.{Search}
 use Rattle.search_state.specs.Inner.Leaves.{code_of}
 use Rattle.search_state.specs.Inner.Memory.{problem_in, chosen_exprs, choices_of, best_sorts_at, best_measure_at, best_choices_at, candidate_of, best_of}
-use Rattle.search_state.specs.Inner.Solving.{OnlySorts}
-use Rattle.solve_outputs.specs.Handout.{solve_left_with}
 use Rattle.words.specs.Words.{part}
 use Rattle.words.proofs.Parts.{length_part}
 use Rattle.solve_checks.specs.declared.Problem.{Problem}
 use Rattle.solve_checks.specs.Inner.Calls.{call_for, constraint_rows}
 use Rattle.solve_outputs.specs.Inner.Begin.{sizes_of}
 use Rattle.solve_outputs.specs.declared.Handout.{Handout}
-use Rattle.solve_outputs.specs.Inner.Finish.{Answered, answered, settled, solve_left_by, handed_out, Handable}
-use Rattle.solve_outputs.specs.Inner.Handing.{counts_then, told_in, left_in, handing, judging, settling, Tidied}
+use Rattle.solve_outputs.specs.Inner.Finish.{Answered, answered, settled, handed_out, Handable}
+use Rattle.solve_outputs.specs.Inner.Handing.{counts_then, told_in, handing, judging, settling}
 
 pub sizes_counted : (p : Problem) (n d : ℕ) → n ≡ components (constraint_rows p.constraints.now p.given.constraints)
     → d ≡ length (disjunctions (constraint_rows p.constraints.now p.given.constraints))
@@ -114,13 +112,6 @@ module _ (s : Search) (names : List BaseName) (h : Handout) (k : Counts) (e : k 
 
 -- by the answer of the search
 module _ (s : Search) (names : List BaseName) (h : Handout) (k : Lengths) (r : Result Bool Full) where
-  pub had_room : (b : Bool) → r ≡ Ok b → (a : Answered) → a ≡ judging s names h → settled s.sorts.now a ≡ settling s names h k r
-  had_room b e a q = ap (settled s.sorts.now) q ∙ (either b ∙ sym (ap (settling s names h k) e))
-    where
-      either : (b : Bool) → settled s.sorts.now (judging s names h) ≡ settling s names h k (Ok b)
-      either true = refl
-      either false = refl
-
   refused_so : (full : Full) → refusal_of full ≡ room_refusal (code_of full)
   unfolding room_refusal
   refused_so Sorts = refl
@@ -130,12 +121,3 @@ module _ (s : Search) (names : List BaseName) (h : Handout) (k : Lengths) (r : R
       → (us : List ℕ) → us ≡ given_back k.sorts k.entries s.sorts.now → settled us (told_in (Err c) h) ≡ settling s names h k r
   room_ended full e c q us g =
       (λ i. settled (g i) (told_in (Err ((q ∙ refused_so full) i)) h)) ∙ sym (ap (settling s names h k) e)
-
--- all lent memory
-module _ (s m u : Search) (names : List BaseName) (h h' : Handout) (k : Lengths) (r : Result Bool Full) (a : Solved)
-    (only : OnlySorts s m) (t : Tidied k m u) where
-  pub all_left : settled m.sorts.now (told_in a h') ≡ settling s names h k r
-      → left_in a u h' ≡ solve_left_by k s.nodes.now s.binds.now s.scratch.now (settling s names h k r)
-  all_left e =
-      (λ i. solve_left_with a (t.0 i).now (t.1 i).now (t.2 i).now (t.3 i).now h')
-      ∙ (λ i. solve_left_by k (only i).nodes (only i).kept.binds (only i).scratch (e i))

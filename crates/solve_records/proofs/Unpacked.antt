@@ -1,6 +1,7 @@
 -- What unpacking a list of records does, as facts of lists. Assumes nothing.
 use mathlib.Core.Path.{◌≡◌, refl, sym, ap, ◌∙◌}
 use Prim.Native.Nat.{ℕ, suc, ◌+◌, ◌-◌, ◌*◌, ◌<◌, ◌≤◌, min}
+use native.Mathlib.Numerals.{add-one}
 use native.Mathlib.Omega.{arith}
 use mathlib.Core.List.{List, [], ◌∷◌, ◌++◌}
 use lib.ListN.{length, take, drop, set, replicate, length-take, length-replicate, drop_of_length-le}
@@ -18,9 +19,6 @@ two_on i = omega arith
 
 three_on : (i : ℕ) → 3 * (i + 1) ≡ suc (suc (suc (3 * i)))
 three_on i = omega arith
-
-next : (i : ℕ) → i + 1 ≡ suc i
-next i = omega arith
 
 -- three words, one after the other, are a record's
 pub three_words_are_a_record : (ws ws₁ ws₂ ws₃ : List ℕ) (i : ℕ) (o : OverloadRecord)
@@ -47,7 +45,7 @@ one_record_more : (os : List OverloadRecord) (i : ℕ) (ws : List ℕ) → i < m
 unfolding record_words
 one_record_more os i ws below within =
     ap (λ (k : ℕ). sets (sets ws (3 * i) (words_of (record_at os i))) k (words_from (i + 1) os)) (three_on i)
-    ∙ ap (λ (k : ℕ). sets (sets ws (3 * i) (words_of (record_at os i))) (suc (suc (suc (3 * i)))) (words_from k os)) (next i)
+    ∙ ap (λ (k : ℕ). sets (sets ws (3 * i) (words_of (record_at os i))) (suc (suc (suc (3 * i)))) (words_from k os)) (add-one i)
     ∙ ap (λ (o : OverloadRecord). sets ws (3 * i) (record_words (o ∷ drop (suc i) (take max_overloads os)))) (sym (get_or-take max_overloads os i no_record below))
     ∙ ap (λ (l : List OverloadRecord). sets ws (3 * i) (record_words l)) (sym (drop-cons (take max_overloads os) i
     no_record (omega (arith, below, within, length-take max_overloads os))))

@@ -44,9 +44,6 @@ work c (Source t j n i) = (c - i) * 10000000000 + 1 + 70000 * (n - j)
 
 -- what comes next, by its kind
 module _ (ls : List ℕ) (z : Sizes) (ws ns bs sc : List ℕ) (k : State) (e : Branch) (next : Next) where
-  pub next_is : (x : Next) → next ≡ x → (more : ℕ) (xs : List ℕ) → Searching ws ns bs sc ls z k e more xs next → Searching ws ns bs sc ls z k e more xs x
-  next_is x q more xs s = subst (Searching ws ns bs sc ls z k e more xs) q s
-
   module _ (ws' ns' bs' sc' : List ℕ) (r : Answer) where
     pub next_solve : (i : ℕ) → next ≡ Solve i → Comes ls z ws ns bs sc k e (solve_from ls z i) ws' ns' bs' sc' r
         → Comes ls z ws ns bs sc k e (next_of ls z next) ws' ns' bs' sc' r

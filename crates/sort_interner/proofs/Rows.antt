@@ -1,18 +1,14 @@
 -- What a row's words say as far as they are looked at, and two rows compared, at each way through the code. Assumes nothing.
 use mathlib.Core.Path.{◌≡◌, sym, ap, ap₂, ◌∙◌}
-use mathlib.Core.Bool.{Bool, true, false, cond, and-false}
+use mathlib.Core.Bool.{Bool, false, cond, and-false}
 use mathlib.Core.List.{List, []}
 use Prim.Native.Nat.{ℕ, ◌+◌, ◌*◌}
 use lib.ListN.{get_or}
-use lib.Dec.{eqb}
 use borrow.Author.Tests.{eq-eqb, ne_eqb}
 use Rattle.resolved_sort.specs.Storage.{start_at, count_at, entries_of, Row, words_at}
 use Rattle.resolved_sort.specs.Rows.{same_words, same_row}
 use Rattle.resolved_sort.specs.declared.Run.{Run}
 use Rattle.sort_interner.specs.Inner.Tests.{run_words, RunAt}
-
-pub by_eqb : (x y : ℕ) → eqb x y ≡ false → x ≡ y → ⊥
-by_eqb x y h e = let z : true ≡ false = sym (eq-eqb x y e) ∙ h in cc
 
 abbrev run : ℕ → ℕ → Run
 run s n = record { start = s; count = n }

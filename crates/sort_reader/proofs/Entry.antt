@@ -29,11 +29,10 @@ use Rattle.resolved_sort.specs.Growing.{SortsKept, InTree}
 use Rattle.resolved_sort.proofs.Unchanged.{length_after}
 use Rattle.resolved_sort.proofs.GivenBack.{made_is_given_back}
 use Rattle.resolved_sort.proofs.FirstFailing.{first_fails, first_passes, append_fails, append_passes, cons_passes}
-use Rattle.sort_text.specs.declared.Unread.{Unread}
 use Rattle.sort_text.specs.declared.Unread.TheVariants.{Refused, NotASort, NoRoom}
 use Rattle.sort_text.specs.Parse.{Parsed, parsed, stuck, line}
 use Rattle.sort_text.specs.Postfix.{Short, sixth, postfix, steps, HasPrimitives, HasSix, InStack}
-use Rattle.sort_text.specs.Reading.{store, ReadAnswer, short_line, read_checks, read_left, read_at, stored_by, read_as_of, reading}
+use Rattle.sort_text.specs.Reading.{store, ReadAnswer, short_line, read_checks, read_left, stored_by, read_as_of, reading}
 use Rattle.sort_text.proofs.Stores.{steps_are_store}
 use Rattle.sort_text.proofs.Running.{steps_kept}
 use Rattle.sort_text.proofs.WhatIsRead.{line_writable}
@@ -80,10 +79,6 @@ module _ (ws : List ℕ) (n e : ℕ) (bs : List ℕ) where
 pub handed : {A E : Type 0} (x : Result A E) (e : E) → IsErrAnd x (λ f. f ≡ e) → x ≡ Err e
 handed (Ok a) e h = absurd h
 handed (Err f) e h = ap Err h
-
--- what reading a line has left, by its answer
-pub line_read : (us : List ℕ) (k : Counts) {r : Result SortId Unread} {s : SortId} → r ≡ Ok s → read_left us (Ok (s, k)) ≡ read_at us k r
-line_read us k e = ap (read_at us k) (sym e)
 
 -- what it means that no check fails
 module _ (ws : List ℕ) (n e : ℕ) (bs : List ℕ) (t : Tested) (et : t ≡ first_failing (read_checks ws n e bs)) where

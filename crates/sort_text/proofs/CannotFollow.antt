@@ -34,7 +34,7 @@ use Rattle.sort_text.proofs.Progress.{word_takes, open_bracket_takes, hash_takes
 use Rattle.sort_text.proofs.Depth.{sort_is}
 use Rattle.sort_text.proofs.Grammar.{Closed, arity_snoc, line_derived}
 use Rattle.sort_text.proofs.Exactly.{Stops, rest_arrow, rest_hash, line_exactly}
-use Rattle.sort_text.proofs.Readable.{and_both}
+use Rattle.std.proofs.lemmas.Bool.{and_from}
 use Rattle.sort_text.proofs.RoundTrip.{no_letter, letters, next_word, next_sort_word, meaning_sort_word}
 
 -- tokens by themselves
@@ -376,7 +376,7 @@ run_is_letters [] = refl
 run_is_letters (b ∷ bs) = go (run_is_letters bs) (is_letter b) refl
   where
     go : letters (run is_letter bs) ≡ true → (t : Bool) → is_letter b ≡ t → letters (cond t (b ∷ run is_letter bs) []) ≡ true
-    go h true e = and_both (is_letter b) (letters (run is_letter bs)) e h
+    go h true e = and_from (is_letter b) (letters (run is_letter bs)) e h
     go h false e = refl
 
 dash_word : (bs : List ℕ) → IfWord (dash bs)

@@ -1,22 +1,15 @@
 -- The sorts that a line can spell: the writable ones whose functions have at most 16 arguments, none of them a function. Said at
 -- once and said in three parts, which agree by the clauses. Assumes nothing.
 use mathlib.Core.Path.{◌≡◌, refl}
-use mathlib.Core.Bool.{Bool, true, not, ◌&&◌, and-eq-true_iff}
+use mathlib.Core.Bool.{true, not, ◌&&◌}
 use lib.Dec.{leb}
+use Rattle.std.proofs.lemmas.Bool.{and_from}
+use Rattle.resolved_sort.proofs.Below.{and_left, and_right}
 use Rattle.resolved_sort.specs.Tree.{Tree, flat, container, function, Trees, no_args, arg, arity}
 use Rattle.resolved_sort.specs.Order.{is_function}
 use Rattle.sort_text.specs.Text.{nonempty, writable, writables}
 use Rattle.resolved_sort.specs.Storage.{max_arguments}
 use Rattle.sort_text.specs.Readable.{readable, arguments, few, fews, no_function_argument, no_functions}
-
-pub and_both : (a b : Bool) → a ≡ true → b ≡ true → (a && b) ≡ true
-and_both a b x y = (and-eq-true_iff a b).1 (x, y)
-
-pub and_left : (a b : Bool) → (a && b) ≡ true → a ≡ true
-and_left a b e = ((and-eq-true_iff a b).0 e).0
-
-pub and_right : (a b : Bool) → (a && b) ≡ true → b ≡ true
-and_right a b e = ((and-eq-true_iff a b).0 e).1
 
 -- the parts of what a function asks
 pub function_readable : (ts : Trees) (r : Tree) → readable (function ts r) ≡ true
@@ -34,7 +27,7 @@ function_readable ts r e =
 pub readable_function : (ts : Trees) (r : Tree) → nonempty ts ≡ true → leb (arity ts) max_arguments ≡ true
     → arguments ts ≡ true → readable r ≡ true → readable (function ts r) ≡ true
 unfolding readable
-readable_function ts r a b c d = and_both _ _ (and_both _ _ (and_both _ _ a b) c) d
+readable_function ts r a b c d = and_from _ _ (and_from _ _ (and_from _ _ a b) c) d
 
 pub argument_readable : (t : Tree) (ts : Trees) → arguments (arg t ts) ≡ true → (not (is_function t) ≡ true) × (readable t ≡ true) × (arguments ts ≡ true)
 unfolding arguments
@@ -44,7 +37,7 @@ argument_readable t ts e =
 
 pub readable_argument : (t : Tree) (ts : Trees) → not (is_function t) ≡ true → readable t ≡ true → arguments ts ≡ true → arguments (arg t ts) ≡ true
 unfolding arguments
-readable_argument t ts a b c = and_both _ _ (and_both _ _ a b) c
+readable_argument t ts a b c = and_from _ _ (and_from _ _ a b) c
 
 -- readable is writable, few arguments, and no function for an argument
 abbrev pub Parts : Tree → Type 0
@@ -63,7 +56,7 @@ mutual
       let h = function_readable ts r e in
       let a = arguments_parts ts h.2 in
       let b = readable_parts r h.3 in
-      (and_both _ _ (and_both _ _ h.0 a.0) b.0, and_both _ _ (and_both _ _ h.1 a.1) b.1, and_both _ _ a.2 b.2)
+      (and_from _ _ (and_from _ _ h.0 a.0) b.0, and_from _ _ (and_from _ _ h.1 a.1) b.1, and_from _ _ a.2 b.2)
 
   pub arguments_parts : (ts : Trees) → arguments ts ≡ true → PartsAll ts
   arguments_parts no_args e = (refl, refl, refl)
@@ -71,7 +64,7 @@ mutual
       let h = argument_readable t ts e in
       let a = readable_parts t h.1 in
       let b = arguments_parts ts h.2 in
-      (and_both _ _ a.0 b.0, and_both _ _ a.1 b.1, and_both _ _ (and_both _ _ h.0 a.2) b.2)
+      (and_from _ _ a.0 b.0, and_from _ _ a.1 b.1, and_from _ _ (and_from _ _ h.0 a.2) b.2)
 
 mutual
   unfolding writable writables few fews no_function_argument no_functions readable arguments

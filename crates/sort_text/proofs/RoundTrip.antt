@@ -19,7 +19,8 @@ use Rattle.sort_text.specs.Text.{nonempty, flat_writable, writable, between_text
 use Rattle.sort_text.proofs.Depth.{sort_is}
 use Rattle.resolved_sort.specs.Order.{is_function}
 use Rattle.sort_text.specs.Readable.{readable, arguments, few, no_function_argument}
-use Rattle.sort_text.proofs.Readable.{and_left, and_right, function_readable, argument_readable, parts_readable}
+use Rattle.resolved_sort.proofs.Below.{and_left, and_right}
+use Rattle.sort_text.proofs.Readable.{function_readable, argument_readable, parts_readable}
 use Rattle.sort_text.proofs.WhatIsRead.{line_readable}
 
 -- a word of letters before what starts with no letter is one token

@@ -15,7 +15,7 @@ use Rattle.resolved_sort.specs.Order.{bound_flat, bound_op, bound, bounds}
 use Rattle.resolved_sort.specs.Interning.{Sorts, member, need, Outcome, made, nothing, full, ◌then◌, where_some, fits, intern, make, makes}
 use Rattle.resolved_sort.proofs.Numbers.{true_not_false}
 use Rattle.sort_text.specs.Readable.{size, sizes}
-use Rattle.sort_text.proofs.Readable.{and_both}
+use Rattle.std.proofs.lemmas.Bool.{and_from}
 use Rattle.sort_text.proofs.Length.{IfSome, map₁_if_some, map₂_if_some, any, if_some_is}
 
 -- join and meet have as many nodes as their sorts
@@ -122,7 +122,7 @@ intern_by t S false false e = true_not_false false e refl
 
 pub intern_within : (t : Tree) (S : Sorts) → 0 < S.rows → need t ≤ S.entries → Within (λ u. u ≡ t) 1 (need t) S (intern t S)
 unfolding intern
-intern_within t S p q = intern_by t S (member S.trees t) (fits t S) (and_both (ltb 0 S.rows)
+intern_within t S p q = intern_by t S (member S.trees t) (fits t S) (and_from (ltb 0 S.rows)
     (leb (need t) S.entries) (lt-ltb 0 S.rows p) (le-leb (need t) S.entries q))
 
 -- join and meet

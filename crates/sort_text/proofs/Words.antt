@@ -10,7 +10,7 @@ use borrow.Author.Tests.{eqb-true}
 use Rattle.resolved_sort.specs.declared.Sort.{Sort}
 use Rattle.resolved_sort.specs.declared.ComplexSort.{ComplexSort}
 use Rattle.sort_text.specs.Parse.{same_bytes, sort_word, op_word, WordMeaning, basic, operator, unknown, meaning}
-use Rattle.sort_text.proofs.Readable.{and_left, and_right}
+use Rattle.resolved_sort.proofs.Below.{and_left, and_right}
 
 pub same_bytes_equal : (v w : List ℕ) → same_bytes v w ≡ true → v ≡ w
 unfolding same_bytes

@@ -1,4 +1,4 @@
--- What the solver leaves is told. Assumes nothing.
+-- What the solver leaves can be told. Assumes nothing.
 use Rattle.list_answers.proofs.Telling as law
 use Rattle.list_answers.proofs.ask_and_tell.Goals as goal
 

@@ -1,4 +1,4 @@
--- `run` meets its contract: the search from nothing, and what is left after it. Assumes nothing.
+-- `run` meets its contract: what is left after the search from nothing. Assumes nothing.
 use Rattle.solve_outputs.specs.Inner.Handing.{names_read}
 use Rattle.solve_entries.proofs.Laws as law
 use Rattle.solve_entries.proofs.run.Goals as goal

@@ -1,4 +1,4 @@
--- No line is taken at first, each turn takes one and prints it, and at the end all are printed. Assumes nothing.
+-- Each turn takes a line and prints it, and at the end all are printed. Assumes nothing.
 use Rattle.std.proofs.Common.{ℕ, List, ◌<◌, ◌∙◌, ap, subst, arith, length}
 use Rattle.std.proofs.lemmas.Result.{on_ok_weaker}
 use Rattle.std.specs.Prelude.{Ok}

@@ -1,6 +1,6 @@
 -- Kind and part decide where they differ, else the arguments. Assumes nothing.
 use Rattle.std.proofs.Common.{refl, sym, ◌∙◌}
-use borrow.Author.Tests.{eqb-true}
+use borrow.Author.Tests.{eqb-true, eqb-false}
 use Rattle.sort_interner.specs.Inner.Tests.{is_row}
 use Rattle.sort_interner.proofs.Rows as law
 use Rattle.sort_interner.proofs.is_row.Goals as goal
@@ -19,6 +19,6 @@ pub returns-else-part_at-row : goal.returns-else-part_at-row
 unfolding is_row
 returns-else-part_at-row c = c.if-part_at-row.false ∙ elim c.if-kind_at-row.branch [
   | then-kind_at-row w ↦ law.rows_differ_by_part _ _ _ _ c.kind_at.ensures refl _ _ w.part_at.ensures refl
-      (law.by_eqb _ _ (sym w.value-is ∙ c.if-part_at-row.false))
+      (eqb-false _ _ (sym w.value-is ∙ c.if-part_at-row.false))
   | else-kind_at-row w ↦ law.rows_differ_by_kind _ _ _ _ c.kind_at.ensures refl w.if-kind_at-row.false
 ]

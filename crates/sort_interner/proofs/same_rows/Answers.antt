@@ -1,6 +1,6 @@
 -- Kind and part decide where they differ, else the arguments. Assumes nothing.
 use Rattle.std.proofs.Common.{sym, ◌∙◌}
-use borrow.Author.Tests.{eqb-true}
+use borrow.Author.Tests.{eqb-true, eqb-false}
 use Rattle.sort_interner.proofs.Rows as law
 use Rattle.sort_interner.proofs.same_rows.Goals as goal
 use Rattle.sort_interner.proofs.same_rows.Goals.{then-kind_at, else-kind_at}
@@ -22,7 +22,7 @@ returns-else-part_at c =
     ∙ elim c.if-kind_at.branch [
       | then-kind_at w ↦
           law.rows_differ_by_part _ _ _ _ c.kind_at.ensures c.kind_at-2.ensures
-          _ _ w.part_at.ensures w.part_at-then-kind_at.ensures (law.by_eqb _ _ (sym w.value-is ∙ c.if-part_at.false))
+          _ _ w.part_at.ensures w.part_at-then-kind_at.ensures (eqb-false _ _ (sym w.value-is ∙ c.if-part_at.false))
       | else-kind_at w ↦
           law.rows_differ_by_kind _ _ _ _ c.kind_at.ensures c.kind_at-2.ensures w.if-kind_at.false
     ]

@@ -1,4 +1,4 @@
--- Where the text is short it is put. Assumes nothing.
+-- A short text has room. Assumes nothing.
 use Rattle.std.proofs.Common.{sym, ◌∙◌}
 use Rattle.list_verdict.proofs.Ways as way
 use Rattle.list_verdict.proofs.SortTexts.put_sort_text.Goals as goal

@@ -1,4 +1,4 @@
--- The related container is interned, if there is one. Assumes nothing.
+-- The related container is interned. Assumes nothing.
 use Rattle.std.proofs.Common.{[], ◌∷◌, ap, rules, refl, ◌∙◌}
 use Rattle.resolved_sort.specs.Entries.{At, Full}
 use Rattle.related_sorts.proofs.Laws as law

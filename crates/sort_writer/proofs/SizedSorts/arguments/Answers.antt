@@ -1,4 +1,4 @@
--- The last argument, one more before it, and all of them. Assumes nothing.
+-- The last argument, and one more before it. Assumes nothing.
 use Rattle.std.proofs.Common.{arith, ◌-◌}
 use Rattle.sort_writer.proofs.Fills as law
 use Rattle.sort_writer.proofs.SizedSorts.arguments.Goals as goal
