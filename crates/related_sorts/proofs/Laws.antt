@@ -13,12 +13,12 @@ use borrow.Author.Tests.{lt-ltb, le-ltb, le-leb, lt-leb}
 use Rattle.resolved_sort.specs.declared.ComplexSort.{ComplexSort}
 use Rattle.resolved_sort.specs.declared.SortId.{SortId}
 use Rattle.resolved_sort.specs.declared.Counts.{Counts}
-use Rattle.std.specs.Prelude.{Option as Found, Some, None, Result, Ok, Err}
+use Rattle.std.specs.Prelude.{Option as Found, Some, Result, Ok, Err}
 use Rattle.resolved_sort.specs.Entries.{Joined}
 use Rattle.resolved_sort.specs.Entries.{At as JoinedAt, Full as JoinedFull}
 use Rattle.resolved_sort.specs.Tree.{Tree, container}
 use Rattle.resolved_sort.specs.Interning.{look, member, made as made-sort, full, fits, intern}
-use Rattle.resolved_sort.specs.Storage.{function_kind, Row, kind_op, put_row, trees, sorts_of}
+use Rattle.resolved_sort.specs.Storage.{function_kind, Row, put_row, trees, sorts_of}
 use Rattle.resolved_sort.specs.Entries.{Stored, stored}
 use Rattle.resolved_sort.specs.Rows.{Checked, stored_at}
 use Rattle.resolved_sort.specs.Bounds.{intern_at}
@@ -210,14 +210,6 @@ module _ (up : Bool) (o : ComplexSort) (b : Found ComplexSort) (e : b ≡ found_
   op_is none q z = no_confusion (cc)
   op_is (some p) q z = cc
 
-  op_none : (x : Option ComplexSort) → found_op x ≡ None → x ≡ none
-  op_none none z = refl
-  op_none (some p) z = no_confusion (cc)
-
-  pub no_container : b ≡ None → (sort : Bool) (s : ℕ) (W : Lent) (l : Listed) → places l ≡ [] → made (places l) W ≡ related_over (related_container up o) sort s W
-  no_container z sort s W l y =
-      ap (λ (ps : List ℕ). made ps W) y ∙ sym (ap (λ x. related_over x sort s W) (op_none (related_container up o) (sym e ∙ z)))
-
   module _ (q : ComplexSort) (z : b ≡ Some q) (s : ℕ) (ws ns : List ℕ) (k : Lengths) where
     is_some : related_container up o ≡ some q
     is_some = op_is (related_container up o) q (sym e ∙ z)
@@ -243,19 +235,3 @@ module _ (up : Bool) (o : ComplexSort) (b : Found ComplexSort) (e : b ≡ found_
           ap (λ (ys : List ℕ). no_room 15 (lent ys ns k)) (full_unchanged ws k.sorts k.entries ck
           (container q (look (trees ws k.sorts) s)) ws₁ (ap (stored_at ws₁) (sym x) ∙ sym interned))
           ∙ sym (sort_of ∙ ap (λ w. with_sorts (lent ws ns k) (stored_at ws₁ j) w and-then only) x)
-
-    -- of a node
-    module _ (ws₁ ns₁ : List ℕ) (k₁ : Lengths) (p : Result InferSortId Full) (kind : ℕ) (ek : kind ≡ kind_op q)
-        (ep : node_of p (lent ws₁ ns₁ k₁) ≡ push_node (row kind s []) (lent ws ns k)) where
-      node_over : related_over (related_container up o) false s (lent ws ns k) ≡ (node_of p (lent ws₁ ns₁ k₁) and-then only)
-      node_over =
-          ap (λ x. related_over x false s (lent ws ns k)) is_some
-          ∙ (ap (λ (c : ℕ). push_node (row c s []) (lent ws ns k) and-then only) (sym ek) ∙ ap (λ O. O and-then only) (sym ep))
-
-      pub container_pushed : (c : InferSortId) → p ≡ Ok c → (l : Listed) → places l ≡ c.0 ∷ []
-          → made (places l) (lent ws₁ ns₁ k₁) ≡ related_over (related_container up o) false s (lent ws ns k)
-      container_pushed c x l y =
-          ap (λ (ps : List ℕ). made ps (lent ws₁ ns₁ k₁)) y ∙ sym (node_over ∙ ap (λ w. node_of w (lent ws₁ ns₁ k₁) and-then only) x)
-
-      pub no_room_for_container : (x : Full) → p ≡ Err x → no_room (no_room_in x) (lent ws₁ ns₁ k₁) ≡ related_over (related_container up o) false s (lent ws ns k)
-      no_room_for_container x y = sym (node_over ∙ ap (λ w. node_of w (lent ws₁ ns₁ k₁) and-then only) y)

@@ -158,9 +158,6 @@ module _ (ws ns bs : List ℕ) (k : Lengths) (q : Ready ws ns bs k) where
       (subst (λ (f : ℕ). IsFunction ws ns k f n) same I) (subst (λ (f : ℕ). follow shape deep B (range_of f n) ≡ some y) same e)
 
   module _ (p : ℕ) (x : Placed k p) (fs : List ℕ) (end count kind : ℕ) (s : Descending ws ns bs k p fs end count kind) where
-    pub final : (kind ≡ function_kind → ⊥) → FinalRange ws ns bs k p fs (record { count = count; range = record { 0 = end } })
-    final h = record { down = s.down; placed = s.placed; few = s.few; ends = λ e. h (s.is ∙ e) }
-
     module _ {said : Bool} (told : said ≡ eqb kind function_kind) (holds : said ≡ true) where
       t : kind ≡ function_kind
       t = function_told kind said told holds
@@ -178,9 +175,6 @@ module _ (ws ns bs : List ℕ) (k : Lengths) (q : Ready ws ns bs k) where
       module _ (m : ℕ) (em : m ≡ length (parts_of (shape end))) where
         counted : (0 < m) × IsFunction ws ns k end (m - 1)
         counted = ends.counted ws ns k end function_there m em
-
-        pub has_range : 0 < m
-        has_range = counted.0
 
         pub range_asked : NodesReady ws ns k × Placed k end × (m - 1 < length (parts_of (shape end)))
         range_asked = ends.range_asked ws ns bs k q true end (m - 1) counted.1
