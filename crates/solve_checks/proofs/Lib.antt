@@ -6,3 +6,4 @@ pub mod RowsLeft
 pub mod Fresh
 pub mod Testing
 pub mod Ceilings
+pub mod LastTests

@@ -1,6 +1,6 @@
 -- The first failing check of the solver, as its tests find it one after another. Lists that a check does not look at make no difference to it.
 -- Assumes nothing.
-use mathlib.Core.Path.{◌≡◌, refl, sym, ap, ap₂, ◌∙◌}
+use mathlib.Core.Path.{◌≡◌, refl, sym, ap, ◌∙◌}
 use mathlib.Core.Bool.{Bool, true, false, cond, ◌&&◌, and_assoc}
 use mathlib.Core.List.{List, [], ◌∷◌, ◌++◌}
 use Prim.Native.Nat.{ℕ, ◌*◌, ◌≤◌}
@@ -109,14 +109,8 @@ module _ (s : Storage) (p : Problem) (room : Room) (o : Outs room) where
 
 -- what is counted of the constraints given
 module _ (p : Problem) (m : ℕ) (q : m ≡ p.given.constraints) (x : ℕ) where
-  parts_counted : x ≡ components (constraint_rows p.constraints.now m) → x ≡ components (given (call_for p))
+  pub parts_counted : x ≡ components (constraint_rows p.constraints.now m) → x ≡ components (given (call_for p))
   parts_counted e = e ∙ ap (λ (k : ℕ). components (constraint_rows p.constraints.now k)) q
-
-  pub parts_compared : x ≡ components (constraint_rows p.constraints.now m) → leb x max_components ≡ leb (components (given (call_for p))) max_components
-  parts_compared e = ap (λ (n : ℕ). leb n max_components) (parts_counted e)
-
-  pub parts_have_room : x ≡ components (constraint_rows p.constraints.now m) → {n l : ℕ} → n ≡ l → leb x l ≡ leb (components (given (call_for p))) n
-  parts_have_room e f = ap₂ leb (parts_counted e) (sym f)
 
   pub choices_counted : x ≡ length (disjunctions (constraint_rows p.constraints.now m)) → x ≡ length (disjunctions (given (call_for p)))
   choices_counted e = e ∙ ap (λ (k : ℕ). length (disjunctions (constraint_rows p.constraints.now k))) q
