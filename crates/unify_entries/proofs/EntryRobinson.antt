@@ -46,7 +46,7 @@ module _ (ws : List ℕ) (n e : ℕ) (ns : List ℕ) (m d : ℕ) (bs : List ℕ)
     lent = record { sorts = ws; nodes = ns; lengths = record { sorts = n; entries = e; nodes = m; arguments = d; variables = v } }
 
     checked : Ready ws ns bs lent.lengths
-    checked = ready ws n e ns m d bs v l r f
+    checked = ready ws n e ns m d bs v l r (sym f)
 
     is_robinson : Robinson shape B l r (unify shape B l r)
     is_robinson = unify_is_robinson ws n e ns m d v checked.nodes B checked.binds l r
@@ -59,7 +59,7 @@ module _ (ws : List ℕ) (n e : ℕ) (ns : List ℕ) (m d : ℕ) (bs : List ℕ)
           same = λ p x.
               refl;
         }) B (ready_names lent bs checked) deep deeper l r C
-        (lhs_placed ws n e ns m d bs v l r f) (rhs_placed ws n e ns m d bs v l r f) y
+        (lhs_placed ws n e ns m d bs v l r (sym f)) (rhs_placed ws n e ns m d bs v l r (sym f)) y
 
     module _ (C : Binds) (y : unify shape B l r ≡ yes_with C) where
       abbrev words : List ℕ
@@ -94,7 +94,7 @@ module _ (ws : List ℕ) (n e : ℕ) (ns : List ℕ) (m d : ℕ) (bs : List ℕ)
 
       same_checks : unify_checks ws n e ns m d words v l r ≡ unify_checks ws n e ns m d bs v l r
       unfolding unify_checks node_checks bindings_within_lent
-      same_checks = rw (held, as_long, fine, settled, (chain ws n e ns m d bs v l r f).6, (chain ws n e ns m d bs v l r f).7)
+      same_checks = rw (held, as_long, fine, settled, (chain ws n e ns m d bs v l r (sym f)).6, (chain ws n e ns m d bs v l r (sym f)).7)
 
       left_yes : LeftYes ws n e ns m d bs v l r words
       left_yes = record { passed = f; solved = rw held solved_by; long = as_long; past = rest; again = ap first_failing same_checks ∙ f }

@@ -129,7 +129,10 @@ module _ (ws : List ℕ) (n e : ℕ) (ns : List ℕ) (m d : ℕ) (bs : List ℕ)
             rest_decides p u y = past_1 u (second_decides sorted rest t by_sorts p u y)
 
   -- no check fails
-  module _ (x : first_failing all ≡ Ok tt) where
+  module _ (none_fails : Ok tt ≡ first_failing all) where
+    x : first_failing all ≡ Ok tt
+    x = sym none_fails
+
     pub chain : (within_lent ws n e ≡ true) × (nodes_within_lent ns m d ≡ true) × (bindings_within_lent bs v ≡ true) ×
         (rows_fine ws n e ≡ true) × (no_two_equal ws n ≡ true) × (nodes_fine ns m d n v ≡ true)
         × (bindings_fine n m (binds_of bs v) ≡ true) × (acyclic ns m (binds_of bs v) ≡ true) × (is_place n m l ≡ true) ×
@@ -221,11 +224,11 @@ module _ (ws : List ℕ) (n e : ℕ) (ns : List ℕ) (m d : ℕ) (bs : List ℕ)
       (sym et ∙ x))
 
   module _ (p : t ≡ Ok tt) where
-    pub none_fails : first_failing (unify_checks ws n e ns m d bs v l r) ≡ Ok tt
-    none_fails = sym et ∙ p
+    none_failed : first_failing (unify_checks ws n e ns m d bs v l r) ≡ Ok tt
+    none_failed = sym et ∙ p
 
     pub answered : (bs₁ : List ℕ) (u : Result Bool Refusal) → binds_left bs₁ u ≡ binds_left_by bs v
         (unify (shape_at (lists_of ws n ns m)) (binds_of bs v) l r) → binds_left bs₁ u ≡ unify_entry ws n e ns m d bs v l r
     unfolding unify_entry
     answered bs₁ u x =
-        x ∙ sym (ap (λ o. refused_or o refuse (binds_left_by bs v (unify (shape_at (lists_of ws n ns m)) (binds_of bs v) l r))) none_fails)
+        x ∙ sym (ap (λ o. refused_or o refuse (binds_left_by bs v (unify (shape_at (lists_of ws n ns m)) (binds_of bs v) l r))) none_failed)
