@@ -127,4 +127,5 @@ module _ (s : Storage) (p : Problem) (room : Room) (o : Outs room) where
                             → {t : Tested} → t ≡ first_failing (one TooShort (leb choices (room.choices / 2)) ∷ []) → t ≡ first_failing (last_checks I)
                         choices_decide choices e {t} f =
                             past_measure
-                            (found TooShort _ _ (half choices room.choices ∙ ap₂ (λ (d m : ℕ). leb (2 * d) m) (choices_counted p n counted choices e) (sym o.choices_length)) t f)
+                            (found TooShort _ _ (half choices room.choices ∙ ap₂ (λ (d m : ℕ). leb (2 * d) m)
+                            (choices_counted p n counted choices e) (sym o.choices_length)) t f)
