@@ -56,8 +56,8 @@ module _ (ws : List ℕ) (n e : ℕ) (vs : List ℕ) where
       → ((i : ℕ) → i < n → tree_at vs n i ≡ tree_at ws n i) × (first_failing (sort_checks vs n e) ≡ Ok tt)
   words_put_back_read_as_given p = (p.old, p.again)
 
--- "a new distinct sort would exceed 1,024 sorts or 4,096 entries": it is at no number of the list, and no row or no entries are left for it, though it needs
--- no more than a function may
+-- "a new distinct sort would exceed 1,024 sorts or 4,096 entries": it is at no number of the list so far, and no row or too few entries are left for it,
+-- though it needs no more than a function may
 pub room_ended_at_a_new_sort : (ws : List ℕ) (n e : ℕ) (r : RanOut ws n e)
     → ((i : ℕ) → i < length r.so_far.trees → look r.so_far.trees i ≡ r.wanted → ⊥)
     × ((max_sorts ≤ length r.so_far.trees) ⊎ (max_entries < e + needs (drop n r.so_far.trees) + need r.wanted))

@@ -6,13 +6,15 @@ use mathlib.Core.List.{List, [], ◌∷◌}
 use Prim.Native.Nat.{ℕ, suc, ◌+◌, ◌*◌, ◌^◌, ◌<◌, ◌≤◌}
 use native.Mathlib.Omega.{arith}
 use lib.Dec.{ltb, leb}
+use lib.ListN.{get_or}
 use Rattle.std.specs.List.{list_all}
 use Rattle.inference.specs.Constraints.{max_sources, max_components}
 use Rattle.inference.specs.SolveChecks.{scratch_words}
 use Rattle.list_memory.specs.declared.Table.{Table}
+use Rattle.list_memory.specs.declared.Slice.{Slice}
 use Rattle.list_memory.specs.Memory.{list_typing_words, list_choice_words, list_sources_at, list_typing_at, list_measure_at, list_choices_at, list_scratch_at}
 use Rattle.list_memory.specs.Memory.{rows_at, most_rows, default_at, counts_at, counts_told_at, lent_at, lent_told_at, stage_at, last_at, memory_words}
-use Rattle.list_memory.specs.Layouts.{table_number, layout_of, list_row_at}
+use Rattle.list_memory.specs.Layouts.{table_number, slice_number, layout_of, list_row_at}
 
 abbrev tables : List Table
 tables =
@@ -28,6 +30,38 @@ pub tables_lie_apart :
     list_all (λ (a : Table). list_all (λ (b : Table). not (ltb (table_number a) (table_number b)) || leb (end_of a) (layout_of b).start) tables) tables ≡ true
 unfolding layout_of
 tables_lie_apart = refl
+
+-- each table is the one that its number names, and each slice too: so their words of counts and lengths are their own
+pub table_is_that_of_its_number : (k : Table) → get_or tables (table_number k) Table.Sorts ≡ k
+table_is_that_of_its_number Table.Sorts = refl
+table_is_that_of_its_number Table.Entries = refl
+table_is_that_of_its_number Table.Nodes = refl
+table_is_that_of_its_number Table.NodeEntries = refl
+table_is_that_of_its_number Table.Vars = refl
+table_is_that_of_its_number Table.Exprs = refl
+table_is_that_of_its_number Table.Names = refl
+table_is_that_of_its_number Table.Constraints = refl
+table_is_that_of_its_number Table.Overloads = refl
+table_is_that_of_its_number Table.Sources = refl
+
+abbrev slices : List Slice
+slices =
+    Slice.Sorts ∷ Slice.Nodes ∷ Slice.Bindings ∷ Slice.Exprs ∷ Slice.Names ∷ Slice.Constraints ∷ Slice.Overloads ∷ Slice.Sources
+    ∷ Slice.Scratch ∷ Slice.Typing ∷ Slice.Measure ∷ Slice.Choices ∷ []
+
+pub slice_is_that_of_its_number : (k : Slice) → get_or slices (slice_number k) Slice.Sorts ≡ k
+slice_is_that_of_its_number Slice.Sorts = refl
+slice_is_that_of_its_number Slice.Nodes = refl
+slice_is_that_of_its_number Slice.Bindings = refl
+slice_is_that_of_its_number Slice.Exprs = refl
+slice_is_that_of_its_number Slice.Names = refl
+slice_is_that_of_its_number Slice.Constraints = refl
+slice_is_that_of_its_number Slice.Overloads = refl
+slice_is_that_of_its_number Slice.Sources = refl
+slice_is_that_of_its_number Slice.Scratch = refl
+slice_is_that_of_its_number Slice.Typing = refl
+slice_is_that_of_its_number Slice.Measure = refl
+slice_is_that_of_its_number Slice.Choices = refl
 
 -- and its rows follow one another
 pub rows_follow_one_another : (k : Table) (n : ℕ) → list_row_at k (suc n) ≡ list_row_at k n + (layout_of k).width

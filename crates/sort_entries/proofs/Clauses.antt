@@ -1,5 +1,5 @@
 -- What is said of join and meet, each clause read alone, beside `bound_says_exactly`: the number answered stands for the join or meet, in words that have
--- grown; none is answered where there is none; without room the words are put back, and some sort had no place; and a check alone refuses
+-- grown; none is answered where there is none; without room the words are put back, and making ended at a sort that had no place; and a check alone refuses
 -- with the words as given. By the cases of the answer. Assumes nothing.
 use Rattle.std.specs.Prelude as Rust
 use mathlib.Core.Path.{◌≡◌, refl}
@@ -14,10 +14,11 @@ use Rattle.resolved_sort.specs.declared.SortId.{SortId}
 use Rattle.resolved_sort.specs.declared.Refusal.{Refusal}
 use Rattle.resolved_sort.specs.declared.Refusal.TheVariants.{SortsFull}
 use Rattle.resolved_sort.specs.Order.{bound}
+use Rattle.resolved_sort.specs.Interning.{full}
 use Rattle.resolved_sort.specs.Checks.{first_failing, pair_checks}
 use Rattle.resolved_sort.specs.Entries.{tree_at}
 use Rattle.entry_answers.specs.SortsLeft.{SortsGrew, SortsPutBack, RanOut}
-use Rattle.sort_entries.specs.Answered.{BoundSays}
+use Rattle.sort_entries.specs.Answered.{made_asked, BoundSays}
 
 module _ (up : Bool) (ws : List ℕ) (n e a b : ℕ) (vs : List ℕ) where
   pub found_is_the_bound : (s : SortId) (k : Counts) → BoundSays up ws n e a b vs (Ok (Rust.Some s, k))
@@ -29,9 +30,10 @@ module _ (up : Bool) (ws : List ℕ) (n e a b : ℕ) (vs : List ℕ) where
   none_is_no_bound k x = (x.is, x.grew)
 
   pub no_room_puts_back : BoundSays up ws n e a b vs (Err SortsFull)
-      → (first_failing (pair_checks ws n e a b) ≡ Ok tt) × RanOut ws n e × SortsPutBack ws n e vs
+      → (first_failing (pair_checks ws n e a b) ≡ Ok tt)
+      × ((r : RanOut ws n e) × (made_asked up ws n e a b ≡ full r.so_far)) × SortsPutBack ws n e vs
   no_room_puts_back (inl x) = absurd (x.1 refl)
-  no_room_puts_back (inr x) = (x.0.passed, x.0.ran_out, x.0.put_back)
+  no_room_puts_back (inr x) = (x.0.passed, (x.0.ran_out, x.0.made_so), x.0.put_back)
 
   pub refused_by_the_first_failing : (c : Refusal) → (c ≡ SortsFull → ⊥) → BoundSays up ws n e a b vs (Err c)
       → (first_failing (pair_checks ws n e a b) ≡ Err c) × (vs ≡ ws)

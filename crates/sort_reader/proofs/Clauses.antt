@@ -1,5 +1,5 @@
 -- What is said of read, each clause read alone, beside `read_says_exactly`: the number answered stands for the line's sort, in words that have grown; a line
--- that is no sort is left from the position answered on; without room the words are put back, and some sort had no place; and a check alone
+-- that is no sort is left from the position answered on; without room the words are put back, and storing ended at a sort that had no place; and a check alone
 -- refuses with the words as given. By the cases of the answer. Assumes nothing.
 use mathlib.Core.Path.{◌≡◌}
 use mathlib.Core.List.{List, []}
@@ -10,12 +10,14 @@ use Rattle.resolved_sort.specs.declared.Counts.{Counts}
 use Rattle.resolved_sort.specs.declared.SortId.{SortId}
 use Rattle.resolved_sort.specs.declared.Refusal.{Refusal}
 use Rattle.resolved_sort.specs.Tree.{Tree}
+use Rattle.resolved_sort.specs.Interning.{full}
+use Rattle.resolved_sort.specs.Storage.{sorts_of}
 use Rattle.resolved_sort.specs.Checks.{first_failing}
 use Rattle.resolved_sort.specs.Entries.{tree_at}
 use Rattle.entry_answers.specs.SortsLeft.{SortsGrew, SortsPutBack, RanOut}
 use Rattle.sort_text.specs.declared.Unread.TheVariants.{Refused, NotASort, NoRoom}
 use Rattle.sort_text.specs.Parse.{parsed, stuck, line}
-use Rattle.sort_text.specs.Reading.{read_checks}
+use Rattle.sort_text.specs.Reading.{read_checks, store}
 use Rattle.sort_reader.specs.Answered.{ReadSays}
 
 module _ (ws : List ℕ) (n e : ℕ) (bs vs : List ℕ) where
@@ -27,8 +29,9 @@ module _ (ws : List ℕ) (n e : ℕ) (bs vs : List ℕ) where
   no_sort_is_left_unread at x = (x.inside, x.is, x.given)
 
   pub no_room_puts_back : ReadSays ws n e bs vs (Err NoRoom)
-      → (first_failing (read_checks ws n e bs) ≡ Ok tt) × ((t : Tree) × (line bs ≡ parsed t [])) × RanOut ws n e × SortsPutBack ws n e vs
-  no_room_puts_back x = (x.passed, (x.sort, x.is), x.ran_out, x.put_back)
+      → (first_failing (read_checks ws n e bs) ≡ Ok tt)
+      × ((t : Tree) × (r : RanOut ws n e) × (line bs ≡ parsed t []) × (store t (sorts_of ws n e) ≡ full r.so_far)) × SortsPutBack ws n e vs
+  no_room_puts_back x = (x.passed, (x.sort, x.ran_out, x.is, x.stored_so), x.put_back)
 
   pub refused_by_the_first_failing : (c : Refusal) → ReadSays ws n e bs vs (Err (Refused c)) → (first_failing (read_checks ws n e bs) ≡ Err c) × (vs ≡ ws)
   refused_by_the_first_failing c x = (x.first, x.given)

@@ -5,7 +5,6 @@ use mathlib.Core.List.{List}
 use mathlib.Core.Logic.{◌↔◌}
 use mathlib.Core.Option.{Option, none, some}
 use Prim.Native.Nat.{ℕ, ◌-◌, ◌<◌, ◌≤◌}
-use native.Mathlib.Omega.{arith}
 use lib.ListN.{get_or}
 use Rattle.resolved_sort.proofs.Reached.{no_confusion}
 use Rattle.unification.specs.Nodes.{max_vars, Binds, binding}
@@ -42,5 +41,5 @@ module _ (ts : List ℕ) (c d v : ℕ) (B C : Binds) (t : OnTrail ts c d v B C) 
       go (some q) i = let z : none ≡ some q = sym e ∙ t.stays u q i in no_confusion cc
 
   -- so a trail as long as there may be variables is enough
-  pub trail_is_short : d - c ≤ max_vars
-  trail_is_short = omega (arith, t.few.0, t.few.1)
+  pub trail_is_short : (d - c ≤ v) × (v ≤ max_vars)
+  trail_is_short = t.few
