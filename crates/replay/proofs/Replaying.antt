@@ -3,9 +3,9 @@
 use mathlib.Core.Path.{◌≡◌, refl, sym, ◌∙◌, ap, subst, transport}
 use mathlib.Core.Bool.{Bool, true, false, cond}
 use mathlib.Core.List.{List, [], ◌∷◌, ◌++◌, append_assoc, append-nil}
-use Prim.Native.Nat.{ℕ, ◌<◌}
+use Prim.Native.Nat.{ℕ, ◌<◌, ◌+◌}
 use native.Mathlib.Omega.{arith}
-use lib.ListN.{length, take, drop}
+use lib.ListN.{length, take, drop, length-append}
 use lib.Dec.{ltb}
 use borrow.Author.Tests.{ltb-true, lt-ltb}
 use Rattle.std.specs.Prelude.{Option, Some, None, Result, Ok, Err, OnOk, IfSome}
@@ -22,6 +22,7 @@ use Rattle.replay.specs.declared.Verdict.{Verdict}
 use Rattle.replay.specs.declared.Tally.{Tally}
 use Rattle.replay.specs.Inner.Lines.{counted_of}
 use Rattle.replay.specs.Said.{end_said}
+use Rattle.replay.specs.Ending.{ReadingEnds}
 use Rattle.replay.specs.Replays.{line_step, line_text, Run, started, after_line, after_lines, known_input, LinesOf, Replayed}
 
 pub appends_more : (a b c : Option (List ℕ)) (xs ys : List ℕ) → Appends a b xs → Appends b c ys → Appends a c (xs ++ ys)
@@ -109,9 +110,10 @@ module _ {S : Type 0} (step : S → ℕ → List ℕ → S × Verdict) (most : �
   lines_then r [] l = refl
   lines_then r (k ∷ ls) l = lines_then (after_line step most r k) ls l
 
-  pub record Replaying (s : S) (input shown₀ : Option (List ℕ)) (held : S) (tally : Tally) (left : List ℕ) (known shown : Option (List ℕ))
-      : Type 0 where
+  pub record Replaying (s : S) (input shown₀ : Option (List ℕ)) (count : ℕ) (held : S) (tally : Tally) (left : List ℕ)
+      (known shown : Option (List ℕ)) : Type 0 where
     pub lines : List (List ℕ)
+    pub count_is : length lines ≡ count
     pub run : Run S
     pub is : run ≡ after_lines step most (started s) lines
     pub held_is : held ≡ run.held
@@ -120,11 +122,12 @@ module _ {S : Type 0} (step : S → ℕ → List ℕ → S × Verdict) (most : �
     pub lines_left : (xs : List ℕ) → input ≡ Some xs → LinesLeft most xs left known lines
 
   pub none_replayed : (s : S) (lines : Lines) (known shown : Option (List ℕ))
-      → Replaying s (known_input lines known) shown s (started s).tally (not_taken lines) known shown
+      → Replaying s (known_input lines known) shown 0 s (started s).tally (not_taken lines) known shown
   unfolding after_lines
   none_replayed s lines known shown =
       record {
         lines = [];
+        count_is = refl;
         run = started s;
         is = refl;
         held_is = refl;
@@ -134,20 +137,21 @@ module _ {S : Type 0} (step : S → ℕ → List ℕ → S × Verdict) (most : �
             record { rest = k.rest; is = k.is; lines_are = ap (held_lines most) k.whole_is };
       }
 
-  module _ (s : S) (input shown₀ : Option (List ℕ)) (held : S) (tally : Tally) (left : List ℕ) (known shown : Option (List ℕ))
-      (g : Replaying s input shown₀ held tally left known shown) where
+  module _ (s : S) (input shown₀ : Option (List ℕ)) (count : ℕ) (held : S) (tally : Tally) (left : List ℕ) (known shown : Option (List ℕ))
+      (g : Replaying s input shown₀ count held tally left known shown) where
     pub one_replayed : (line : List ℕ) (held' : S) (tally' : Tally) (left' : List ℕ) (known' shown' : Option (List ℕ))
         → held' ≡ (line_step step most held line).0 → tally' ≡ counted_of tally (line_step step most held line).1
         → Appends shown shown' (line_text tally line (line_step step most held line).1)
         → ((xs : List ℕ) → input ≡ Some xs → (taken : List (List ℕ)) → LinesLeft most xs left known taken
         → LinesLeft most xs left' known' (taken ++ (line ∷ [])))
-        → Replaying s input shown₀ held' tally' left' known' shown'
+        → Replaying s input shown₀ (count + 1) held' tally' left' known' shown'
     unfolding after_line
     one_replayed line held' tally' left' known' shown' e f a h' =
         let h = g.held_is in
         let t = g.tally_is in
         record {
           lines = g.lines ++ (line ∷ []);
+          count_is = omega (arith, length-append g.lines (line ∷ []), g.count_is);
           run = after_line step most g.run line;
           is = ap (λ r. after_line step most r line) g.is ∙ sym (lines_then (started s) g.lines line);
           held_is = e ∙ ap (λ x. (line_step step most x line).0) h;
@@ -157,10 +161,11 @@ module _ {S : Type 0} (step : S → ℕ → List ℕ → S × Verdict) (most : �
           lines_left = λ xs k. h' xs k g.lines (g.lines_left xs k);
         }
 
-    pub all_replayed : (complete : S → Bool) (read : Bool) (b : Bool) (shown' : Option (List ℕ)) → b ≡ complete held
+    pub all_replayed : {R : Type 0} (shows : Shows R) (reader reader' : R) (complete : S → Bool) (read : Bool) (b : Bool)
+        (shown' : Option (List ℕ)) → b ≡ complete held → ReadingEnds shows reader count read reader'
         → ((xs : List ℕ) → input ≡ Some xs → (taken : List (List ℕ)) → LinesLeft most xs left known taken → LinesOf most xs taken read)
-        → Appends shown shown' (end_said tally read b) → Replayed step complete most s input shown₀ shown'
-    all_replayed complete read b shown' e h' a =
+        → Appends shown shown' (end_said tally read b) → Replayed shows reader reader' step complete most s input shown₀ shown'
+    all_replayed shows reader reader' complete read b shown' e d h' a =
         let h = g.held_is in
         let t = g.tally_is in
         let r = g.is in
@@ -173,6 +178,7 @@ module _ {S : Type 0} (step : S → ℕ → List ℕ → S × Verdict) (most : �
               (transport (λ i. Appends shown shown' (end_said (t i) read (complete (h i))))
               (subst (λ x. Appends shown shown' (end_said tally read x)) e a)));
           of_input = if_known input (λ xs. LinesOf most xs g.lines read) (λ xs k. h' xs k g.lines (g.lines_left xs k));
+          ends = subst (λ (n : ℕ). ReadingEnds shows reader n read reader') (sym g.count_is) d;
         }
 
 pub on_ok : {T E : Type 0} (r : Result T E) {P Q : Type 0} → (P → Q) → OnOk r P → OnOk r Q

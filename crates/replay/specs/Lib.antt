@@ -1,4 +1,5 @@
 -- What the contracts of this crate cite.
 pub mod Inner
 pub mod Said
+pub mod Ending
 pub mod Replays

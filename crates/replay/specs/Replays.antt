@@ -10,11 +10,13 @@ use Rattle.line_input.specs.Found.{Nothing}
 use Rattle.line_input.specs.Lines.{seen}
 use Rattle.line_input.specs.Answers.{unread}
 use Rattle.line_input.specs.Taking.{held_lines}
+use Rattle.line_input.specs.Reads.{Shows}
 use Rattle.replay.specs.declared.Verdict.{Verdict}
 use Rattle.replay.specs.declared.Verdict.TheVariants.{Quiet, NotOfForm}
 use Rattle.replay.specs.declared.Tally.{Tally}
 use Rattle.replay.specs.Inner.Lines.{counted_of}
 use Rattle.replay.specs.Said.{said_of, end_said}
+use Rattle.replay.specs.Ending.{ReadingEnds}
 
 -- what is held after a line of a letter, and what came of it, where it is a letter and numbers
 unfoldable pub numbers_step : {S : Type 0} → (S → ℕ → List ℕ → S × Verdict) → S → ℕ → Option Fields → S × Verdict
@@ -73,12 +75,14 @@ pub record LinesOf (most : ℕ) (input : List ℕ) (lines : List (List ℕ)) (re
   pub first : held_lines most input ≡ lines ++ later
   pub all : read ≡ true → later ≡ []
 
--- What is said of lines, and at the end, is written; and they are those of the input, where its bytes are known.
-pub record Replayed {S : Type 0} (step : S → ℕ → List ℕ → S × Verdict) (complete : S → Bool) (most : ℕ) (s : S)
-    (known shown shown-left : Option (List ℕ)) : Type 0 where
+-- What is said of lines, and at the end, is written; they are those of the input, where its bytes are known; and reads that
+-- were made say why reading has ended.
+pub record Replayed {R S : Type 0} (shows : Shows R) (reader reader-left : R) (step : S → ℕ → List ℕ → S × Verdict)
+    (complete : S → Bool) (most : ℕ) (s : S) (known shown shown-left : Option (List ℕ)) : Type 0 where
   pub lines : List (List ℕ)
   pub read : Bool
   pub said : Appends shown shown-left
       ((after_lines step most (started s) lines).said
       ++ end_said (after_lines step most (started s) lines).tally read (complete (after_lines step most (started s) lines).held))
   pub of_input : IfSome known (λ xs. LinesOf most xs lines read)
+  pub ends : ReadingEnds shows reader (length lines) read reader-left

@@ -9,9 +9,9 @@ ghost use Rattle.replay.specs.Said.{line_said, bad_said, other_said, said_of, un
 ghost use Rattle.replay.specs.Replays.{step_of, line_step, line_text, held_bytes, known_input, Replayed};
 ghost use Rattle.replay.specs.Inner.Lines.{near_enough, words_kept, store_from, one_more, counted_of};
 
-use line_input::Lines;
+use line_input::{Lines, Source};
 use std::io;
-use std::io::{Read, Write};
+use std::io::Write;
 use words::{put, rest};
 
 // How many numbers a line has at most, and how many words of a list it gives at most.
@@ -308,13 +308,14 @@ fn take_line<T: Recorded, W: Write>(
 
 // All lines of the input, asked again one after another. A proved loop has to end, and nothing says that an input does:
 // one with so many lines counts as one that cannot be read.
-pub fn replay_all<T: Recorded, R: Read, W: Write>(
+pub fn replay_all<T: Recorded, R: Source, W: Write>(
     recorded: &mut T,
     lines: &mut Lines,
     reader: &mut R,
     out: &mut W,
 ) -> io::Result<()>
-    ensures { OnOk result (Replayed T.step T.complete (length lines.old.line.bytes.now) recorded.old
+    ensures { OnOk result (Replayed R.shows reader.old reader.new T.step T.complete
+        (length lines.old.line.bytes.now) recorded.old
         (known_input lines.old (R.remaining reader.old)) (W.contents out.old) (W.contents out.new)) }
 {
     let most = lines.line.bytes.len();
@@ -336,12 +337,12 @@ pub fn replay_all<T: Recorded, R: Read, W: Write>(
 }
 
 // All lines of a reader, asked again, in memory of this call's own.
-pub fn run<T: Recorded, R: Read, W: Write>(
+pub fn run<T: Recorded, R: Source, W: Write>(
     recorded: &mut T,
     reader: &mut R,
     out: &mut W,
 ) -> io::Result<()>
-    ensures { OnOk result (Replayed T.step T.complete held_bytes recorded.old
+    ensures { OnOk result (Replayed R.shows reader.old reader.new T.step T.complete held_bytes recorded.old
         (R.remaining reader.old) (W.contents out.old) (W.contents out.new)) }
 {
     let mut buffer = [0u8; BUFFER_BYTES];
