@@ -3,3 +3,4 @@ pub mod Laws
 pub mod EntrySays
 pub mod EntryTyping
 pub mod Exactly
+pub mod Untouched
