@@ -16,12 +16,17 @@ use solve::speed;
 /// So many calls are counted together.
 const CALLS: u64 = 8;
 
-const LISTS: [(&str, &str, Timed); 2] = [
+const LISTS: [(&str, &str, Timed); 3] = [
     ("small", "a small list", Timed::Small),
     (
         "large",
         "256 constraints, 512 variables",
         Timed::LongAndWide,
+    ),
+    (
+        "compared",
+        "250 components, 6 choices last",
+        Timed::LongMeasure,
     ),
 ];
 

@@ -25,6 +25,7 @@ pub mod OutputsLeft
 pub mod RowsPast
 -- the leaves that are met: the order of measures, the verdict, choices and names
 pub mod Measures
+pub mod Looked
 pub mod Forgets
 pub mod Branches
 pub mod LeavesMet

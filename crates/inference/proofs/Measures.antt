@@ -12,12 +12,13 @@ use borrow.Author.Tests.{ltb-true, ltb-false, lt-ltb, le-ltb}
 use Rattle.resolved_sort.proofs.Reached.{no_confusion}
 use Rattle.inference.specs.Measure.{Components, Ranking, smaller, equal, greater, compare, is_greater, worse, mirrored, AtMost}
 
-data Tri (x y : ℕ) : Type 0 where
+-- two components
+pub data Tri (x y : ℕ) : Type 0 where
   below : x < y → Tri x y
   level : x ≡ y → Tri x y
   above : y < x → Tri x y
 
-tri : (x y : ℕ) → Tri x y
+pub tri : (x y : ℕ) → Tri x y
 tri x y = go (ltb x y) refl (ltb y x) refl
   where
     go : (a : Bool) → ltb x y ≡ a → (b : Bool) → ltb y x ≡ b → Tri x y

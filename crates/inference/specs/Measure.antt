@@ -1,6 +1,8 @@
 -- The measure: "256 measure components (one per Sub, per Lit, per Join source)". Measures compare
 -- from the front; the first components that differ decide.
-use Rattle.std.specs.Prelude.{Bool, true, false, cond, List, [], ◌∷◌, ℕ, ltb, length, take, ◌≡◌}
+use Rattle.std.specs.Prelude.{Bool, true, false, cond, List, [], ◌∷◌, ℕ, suc, ltb, eqb, length, take, ◌≡◌}
+use Rattle.std.specs.declared.cmp.Ordering.{Ordering}
+use Rattle.std.specs.declared.cmp.Ordering.TheVariants.{Less, Equal, Greater}
 
 abbrev pub Components : Type 0
 Components = List ℕ
@@ -13,6 +15,19 @@ compare [] [] = equal
 compare [] (y ∷ ys) = smaller
 compare (x ∷ xs) [] = greater
 compare (x ∷ xs) (y ∷ ys) = cond (ltb x y) smaller (cond (ltb y x) greater (compare xs ys))
+
+-- "it also returns how many pairs of components it looked at: up to and with the first that differs, or all of the
+-- shorter measure where none does"
+unfoldable pub looked : Components → Components → ℕ
+looked [] ys = 0
+looked (x ∷ xs) [] = 0
+looked (x ∷ xs) (y ∷ ys) = suc (cond (eqb x y) (looked xs ys) 0)
+
+-- the ranking that an Ordering of the Rust says
+abbrev pub ranking_of : Ordering → Ranking
+ranking_of Less = smaller
+ranking_of Equal = equal
+ranking_of Greater = greater
 
 abbrev pub is_greater : Ranking → Bool
 is_greater smaller = false

@@ -14,7 +14,7 @@ use Rattle.unification.specs.Making.{Lent, Makes}
 use Rattle.unification.specs.Inner.Making.{lent}
 use Rattle.unification.specs.Growing.{CheckedLent}
 use Rattle.inference.specs.Constraints.{max_constraints, max_components, rows_from}
-use Rattle.inference.specs.Measure.{Components, Ranking, smaller, equal, greater, compare}
+use Rattle.inference.specs.Measure.{Components, Ranking, smaller, equal, greater, compare, ranking_of}
 use Rattle.inference.specs.Search.{Choice, Path, World, Out, found, missed, on_made, keeping, replace, leaf_by, leaf_over, leaf}
 use Rattle.inference.specs.SolveEntry.{nothing_met}
 use Rattle.inference.proofs.Invariant.{sorts_only_refl}
@@ -33,7 +33,7 @@ use Rattle.search_state.specs.Inner.Memory.{expr_at, problem_in, chosen_exprs, b
 use Rattle.search_state.specs.Inner.Memory.{choices_at, best_choices_at, choices_of, path_of, candidate_of}
 use Rattle.search_state.specs.Inner.Memory.{best_of, world_of}
 use Rattle.words.specs.Words.{part}
-use Rattle.search_state.specs.Inner.Leaves.{extracted_of, Extracts, ranking_of}
+use Rattle.search_state.specs.Inner.Leaves.{extracted_of, Extracts}
 use Rattle.search_state.specs.Inner.Solving.{answer_of}
 use Rattle.search_state.specs.Inner.Searching.{AtLeaf, SamePath, Done, Comes}
 use Rattle.search_state.proofs.Parts.{changed_wider, same_path_refl, same_path_trans, sorts_change_no_path}

@@ -6,10 +6,9 @@ use mathlib.Core.List.{List, [], ◌∷◌}
 use Prim.Native.Nat.{ℕ, ◌+◌, ◌-◌, ◌<◌}
 use native.Mathlib.Omega.{arith}
 use lib.ListN.{length, take, drop}
-use Rattle.inference.specs.Measure.{Components, compare, is_greater, worse}
+use Rattle.inference.specs.Measure.{Components, compare, is_greater, worse, ranking_of}
 use Rattle.inference.specs.Search.{dominated_by}
 use Rattle.inference.specs.SolveEntry.{nothing_met}
-use Rattle.inference.proofs.Measures.{compare_below, compare_above, compare_level}
 use Rattle.search_state.specs.declared.Sizes.{Sizes}
 use Rattle.search_state.specs.Inner.States.{State}
 use Rattle.search_state.specs.declared.Branch.{Branch}
@@ -19,37 +18,18 @@ use Rattle.search_state.specs.Inner.Solving.{has_best}
 use Rattle.std.specs.declared.cmp.Ordering.{Ordering}
 use Rattle.std.specs.declared.cmp.Ordering.TheVariants.{Less, Equal, Greater}
 use Rattle.search_state.specs.Inner.Memory.{problem_in, measure_at, best_measure_at, candidate_of, best_of}
-use Rattle.std.specs.Ordering.{MatchOrdering, nat_cmp, ordering_then, is_gt}
-use Rattle.std.specs.Cmp.Lexicographic.{slice_cmp}
-use Rattle.std.proofs.lemmas.Cmp.{ranked as by_numbers}
+use Rattle.std.specs.Ordering.{is_gt}
 use Rattle.words.specs.Words.{part}
-use Rattle.search_state.specs.Inner.Leaves.{ranking_of}
 use Rattle.search_state.specs.Inner.Searching.{Comparable}
 use Rattle.words.proofs.Parts.{length_part, take_part}
 use Rattle.search_leaf.specs.Inner.Leaf.{ranked, ranked_by, IsDominated}
 
--- The order of lists of numbers is that of measures.
-by_first : (x y : ℕ) (xs ys : Components) (o p : Ordering) → o ≡ nat_cmp x y → MatchOrdering o (x < y) (x ≡ y) (y < x)
-    → ranking_of p ≡ compare xs ys → ranking_of (ordering_then o p) ≡ compare (x ∷ xs) (y ∷ ys)
-by_first x y xs ys Less p e l q = sym (compare_below x y xs ys l)
-by_first x y xs ys Equal p e l q = q ∙ sym (compare_level x y xs ys l)
-by_first x y xs ys Greater p e l q = sym (compare_above x y xs ys l)
-
-pub as_measures : (xs ys : Components) → ranking_of (slice_cmp nat_cmp xs ys) ≡ compare xs ys
-unfolding compare
-as_measures [] [] = refl
-as_measures [] (y ∷ ys) = refl
-as_measures (x ∷ xs) [] = refl
-as_measures (x ∷ xs) (y ∷ ys) =
-    by_first x y xs ys (nat_cmp x y) (slice_cmp nat_cmp xs ys) refl (by_numbers x y (nat_cmp x y) refl) (as_measures xs ys)
-
 -- the words from the measure on, as slices
-pub ranked_slices : (sc : List ℕ) (n : ℕ) (o : Ordering) → o ≡ slice_cmp nat_cmp (take (measure_at + n - measure_at) (drop measure_at sc))
+pub ranked_slices : (sc : List ℕ) (n : ℕ) (o : Ordering) → ranking_of o ≡ compare (take (measure_at + n - measure_at) (drop measure_at sc))
     (take (best_measure_at + n - best_measure_at) (drop best_measure_at sc)) → ranking_of o ≡ ranked sc n
 ranked_slices sc n o e =
-    ap ranking_of e ∙ (ap₂ (λ (a b : ℕ). ranking_of (slice_cmp nat_cmp (part measure_at a sc) (part best_measure_at b sc)))
+    e ∙ ap₂ (λ (a b : ℕ). compare (part measure_at a sc) (part best_measure_at b sc))
     (let q : measure_at + n - measure_at ≡ n = omega arith in q) (let q : best_measure_at + n - best_measure_at ≡ n = omega arith in q)
-    ∙ as_measures (part measure_at n sc) (part best_measure_at n sc))
 
 -- with an incumbent, and without
 pub no_best : (b : Option Incumbent) → ((i : Incumbent) → b ≡ Some i → ⊥) → has_best b ≡ false

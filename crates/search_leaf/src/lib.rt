@@ -5,14 +5,16 @@
 
 ghost use Rattle.std.specs.Prelude.{◌≡◌, ◌+◌, ◌≤◌, length};
 ghost use Rattle.inference.specs.Constraints.{max_components};
+ghost use Rattle.inference.specs.Measure.{ranking_of};
 ghost use Rattle.inference.specs.Search.{replace as replaceLeaf, leaf as leafNext};
 ghost use Rattle.inference.specs.SolveEntry.{nothing_met};
 ghost use Rattle.search_state.specs.Inner.Memory.{problem_in, best_sorts_at};
-ghost use Rattle.search_state.specs.Inner.Leaves.{ranking_of, Extracts};
+ghost use Rattle.search_state.specs.Inner.Leaves.{Extracts};
 ghost use Rattle.search_state.specs.Inner.Solving.{AtLeaf, Comparable, Comes, KeepsRest, has_best, state_of, lent_of};
 ghost use Rattle.search_leaf.specs.Inner.Leaf.{ranked_by, IsDominated, Readable, sorts_from};
 ghost use Rattle.search_leaf.specs.Inner.Leaf.{kept_as_best, Keepable};
 
+use measures::compare;
 use resolved_sort::NoRoom;
 use search_join::sort_of;
 use search_state::{
@@ -23,8 +25,8 @@ use std::cmp::Ordering;
 use unification::{Full, InferSortId};
 use words::{put, word};
 
-// How the components of the branch compare with as many of the incumbent's, from the front: the first that differ
-// decide. Where there is no incumbent, they are less.
+// How the components of the branch compare with as many of the incumbent's. Where there is no incumbent, they are less.
+// How many of them were looked at goes no further up.
 fn rank(search: &Search<'_>, at: Branch) -> Ordering
     requires { at.measure ≤ max_components }
     ensures { ranking_of result
@@ -36,7 +38,7 @@ fn rank(search: &Search<'_>, at: Branch) -> Ordering
     let n = at.measure as usize;
     let measure = &search.scratch[MEASURE_AT..MEASURE_AT + n];
     let best = &search.scratch[BEST_MEASURE_AT..BEST_MEASURE_AT + n];
-    measure.cmp(best)
+    compare(measure, best).ordering
 }
 
 // Whether the measure so far is already greater than the incumbent's, so that no leaf below can replace or tie it.

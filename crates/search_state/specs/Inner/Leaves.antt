@@ -1,8 +1,6 @@
 -- What the functions that the search calls answer and leave.
 use Rattle.std.specs.Prelude.{◌≡◌, Bool, true, false, cond, List, [], ◌∷◌, ℕ, ◌+◌, ◌-◌, ◌≤◌, length, get_or, set, take, drop}
 use Rattle.std.specs.Prelude.{Some, None, Result, Ok, Err}
-use Rattle.std.specs.declared.cmp.Ordering.{Ordering}
-use Rattle.std.specs.declared.cmp.Ordering.TheVariants.{Less, Equal, Greater}
 use Rattle.std.specs.Prelude.{Option as Optional}
 use Rattle.resolved_sort.specs.declared.SortId.{SortId}
 use Rattle.resolved_sort.specs.declared.NoRoom.{NoRoom}
@@ -20,7 +18,6 @@ use Rattle.unification.specs.Making.{Lent, Makes, made, no_list, no_room, ◌and
 use Rattle.unification.specs.Inner.Making.{lent}
 use Rattle.inference.specs.declared.LitKind.{LitKind}
 use Rattle.inference.specs.Constraints.{rows_from}
-use Rattle.inference.specs.Measure.{Ranking, smaller, equal, greater}
 use Rattle.inference.specs.Search.{Agreed, Path, Try, with_binds, with_components, with_choice, wider_tries}
 use Rattle.inference.specs.Search.{narrower_tries, lit_component}
 use Rattle.search_state.specs.declared.Sizes.{Sizes}
@@ -197,11 +194,6 @@ pub record Extracts (ns sc : List ℕ) (a n : ℕ) (O : Makes (List ℕ)) (ws' s
     : Type 0 where
   pub says : extracted_of ws' ns sc' a n k' r ≡ O
   pub changed : ChangedOnly a (a + n) sc sc'
-
-abbrev pub ranking_of : Ordering → Ranking
-ranking_of Less = smaller
-ranking_of Equal = equal
-ranking_of Greater = greater
 
 -- whether a leaf was found, with the state then
 abbrev pub says_of : Bool → State → Answer

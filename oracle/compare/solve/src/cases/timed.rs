@@ -28,18 +28,21 @@ pub enum Timed {
     Long,
     /// 256 constraints, 512 variables and 512 expressions.
     LongAndWide,
+    /// A measure of 250 components, which differ from the incumbent's at the end: choices told apart there.
+    LongMeasure,
     /// One to five constraints beside 1,000 sorts.
     ManySorts,
 }
 
 impl Timed {
-    pub const ALL: [(Timed, &'static str); 7] = [
+    pub const ALL: [(Timed, &'static str); 8] = [
         (Timed::Small, "small"),
         (Timed::Choice, "a choice, told apart"),
         (Timed::Pruned, "7 choices, pruned early"),
         (Timed::PrunedLate, "5 choices, pruned late"),
         (Timed::Long, "256 constraints"),
         (Timed::LongAndWide, "the same, 512 variables"),
+        (Timed::LongMeasure, "250 components, 6 choices last"),
         (Timed::ManySorts, "small, 1,000 sorts"),
     ];
 
@@ -53,6 +56,7 @@ impl Timed {
             Timed::PrunedLate => pruned(rng, 5, true),
             Timed::Long => long_list(rng, MAX_CONSTRAINTS, 0, 0),
             Timed::LongAndWide => long_list(rng, MAX_CONSTRAINTS, MAX_EXPRESSIONS, MAX_VARIABLES),
+            Timed::LongMeasure => long_measure(rng, 250, 6),
             Timed::ManySorts => many_sorts(rng),
         };
         laid_out(rng, junk, &list, More::Exact)
@@ -61,6 +65,12 @@ impl Timed {
 
 fn pruned(rng: &mut Rng, choices: usize, late: bool) -> Given {
     let mut ground = Ground::new(rng);
+    choose(&mut ground, choices, late);
+    ground.finish()
+}
+
+/// Choices of numbers, and after each, or after all, the constraint that tells its overloads apart.
+fn choose(ground: &mut Ground, choices: usize, late: bool) {
     let places: Vec<u16> = (0..choices).map(|_| ground.variable()).collect();
     for &place in &places {
         let overloads = [(); 4].map(|()| ground.number());
@@ -72,6 +82,15 @@ fn pruned(rng: &mut Rng, choices: usize, late: bool) -> Given {
     if late {
         places.iter().for_each(|&place| ground.sub(place, kind::REAL));
     }
+}
+
+fn long_measure(rng: &mut Rng, components: usize, choices: usize) -> Given {
+    let mut ground = Ground::new(rng);
+    for _ in choices..components {
+        let number = ground.number();
+        ground.sub(number, kind::REAL);
+    }
+    choose(&mut ground, choices, false);
     ground.finish()
 }
 
