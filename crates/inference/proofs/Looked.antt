@@ -1,6 +1,6 @@
--- How many pairs of components a comparison looks at. Two measures have a first pair that differs behind what they share, or one of them begins the
--- other; each law is of one of these, and every two measures are one or the other, so that the laws say the number of all. The ranking is settled
--- at that pair. By induction over what is shared. Assumes nothing.
+-- How many pairs of components a comparison looks at. Two measures share components up to a first pair that differs, or one of them begins the other;
+-- each law is of one of these, and every two measures are one or the other, so that the laws say the number of all. The ranking is settled at that
+-- pair. By induction over what is shared. Assumes nothing.
 use mathlib.Core.Path.{◌≡◌, refl, sym, ap, subst, ◌∙◌}
 use mathlib.Core.Bool.{Bool, true, false}
 use mathlib.Core.List.{List, [], ◌∷◌, ◌++◌, map}
@@ -8,7 +8,7 @@ use Prim.Native.Nat.{ℕ, suc}
 use lib.Dec.{eqb}
 use lib.ListN.{length, replicate}
 use borrow.Author.Tests.{eqb-true, eqb-false, ne_eqb, eq-eqb}
-use Rattle.inference.specs.Measure.{Components, Ranking, smaller, equal, greater, compare, looked}
+use Rattle.inference.specs.Measure.{Components, Ranking, smaller, equal, greater, compare, looked, Parting, differ, begins, begun}
 use Rattle.inference.proofs.Measures.{Tri, below, level, above, tri, compare_level, compare_below, compare_above}
 
 -- one pair more
@@ -36,11 +36,6 @@ looked_at_all_of_the_shorter (p ∷ ps) xs =
     (looked_on p p ps (ps ++ xs) refl ∙ ap suc h.0, looked_on p p (ps ++ xs) ps refl ∙ ap suc h.1)
 
 -- Every two measures are of one of these kinds.
-pub data Parting : Components → Components → Type 0 where
-  differ : (ps xs ys : Components) (x y : ℕ) → (x ≡ y → ⊥) → Parting (ps ++ x ∷ xs) (ps ++ y ∷ ys)
-  begins : (ps xs : Components) → Parting ps (ps ++ xs)
-  begun : (ps xs : Components) → Parting (ps ++ xs) ps
-
 further : (x y : ℕ) (xs ys : Components) → x ≡ y → Parting xs ys → Parting (x ∷ xs) (y ∷ ys)
 further x y _ _ e (differ ps us vs u v n) = subst (λ (z : ℕ). Parting (x ∷ ps ++ u ∷ us) (z ∷ ps ++ v ∷ vs)) e (differ (x ∷ ps) us vs u v n)
 further x y _ _ e (begins ps us) = subst (λ (z : ℕ). Parting (x ∷ ps) (z ∷ ps ++ us)) e (begins (x ∷ ps) us)
@@ -54,6 +49,19 @@ every_two_differ_or_begin (x ∷ xs) (y ∷ ys) = go (eqb x y) refl (every_two_d
     go : (b : Bool) → eqb x y ≡ b → Parting xs ys → Parting (x ∷ xs) (y ∷ ys)
     go true e h = further x y xs ys (eqb-true x y e) h
     go false e h = differ [] xs ys x y (eqb-false x y e)
+
+-- So the two laws say the number of every two measures.
+pub two_laws_say_the_number :
+    (f : Components → Components → ℕ)
+    → ((ps xs ys : Components) (x y : ℕ) → (x ≡ y → ⊥) → f (ps ++ x ∷ xs) (ps ++ y ∷ ys) ≡ suc (length ps))
+    → ((ps xs : Components) → (f ps (ps ++ xs) ≡ length ps) × (f (ps ++ xs) ps ≡ length ps))
+    → (xs ys : Components) → f xs ys ≡ looked xs ys
+two_laws_say_the_number f d s xs ys = go xs ys (every_two_differ_or_begin xs ys)
+  where
+    go : (xs ys : Components) → Parting xs ys → f xs ys ≡ looked xs ys
+    go _ _ (differ ps us vs u v n) = d ps us vs u v n ∙ sym (looked_to_the_difference ps us vs u v n)
+    go _ _ (begins ps us) = (s ps us).0 ∙ sym (looked_at_all_of_the_shorter ps us).0
+    go _ _ (begun ps us) = (s ps us).1 ∙ sym (looked_at_all_of_the_shorter ps us).1
 
 -- "The answer is settled at the first component that differs": what comes after it does not count.
 pub settled_at_the_difference : (ps xs ys : Components) (x y : ℕ) → (x ≡ y → ⊥) → compare (ps ++ x ∷ xs) (ps ++ y ∷ ys) ≡ compare (x ∷ []) (y ∷ [])
@@ -88,6 +96,9 @@ samples =
     ∷ (1 ∷ 0 ∷ 0 ∷ [], 0 ∷ 9 ∷ 9 ∷ [], greater, 1)
     ∷ (2 ∷ 5 ∷ 0 ∷ [], 2 ∷ 4 ∷ 9 ∷ [], greater, 2)
     ∷ (2 ∷ 4 ∷ 9 ∷ [], 2 ∷ 5 ∷ 0 ∷ [], smaller, 2)
+    ∷ (1 ∷ 2 ∷ 3 ∷ [], 1 ∷ 5 ∷ 3 ∷ [], smaller, 2)
+    ∷ (2 ∷ [], 1 ∷ 9 ∷ [], greater, 1)
+    ∷ (1 ∷ 9 ∷ [], 2 ∷ [], smaller, 1)
     ∷ (2 ∷ 4 ∷ [], 2 ∷ 4 ∷ [], equal, 2)
     ∷ (2 ∷ 4 ∷ [], 2 ∷ 4 ∷ 0 ∷ [], smaller, 2)
     ∷ (2 ∷ 4 ∷ 0 ∷ [], 2 ∷ 4 ∷ [], greater, 2)

@@ -10,9 +10,14 @@ use lib.Dec.{ltb}
 use lib.ListN.{length, take, drop}
 use borrow.Author.Tests.{ltb-true, ltb-false, lt-ltb, le-ltb}
 use Rattle.resolved_sort.proofs.Reached.{no_confusion}
-use Rattle.inference.specs.Measure.{Components, Ranking, smaller, equal, greater, compare, is_greater, worse, mirrored, AtMost}
+use Rattle.std.specs.declared.cmp.Ordering.{Ordering}
+use Rattle.std.specs.declared.cmp.Ordering.TheVariants.{Less, Equal, Greater}
+use Rattle.std.specs.Ordering.{MatchOrdering, nat_cmp, ordering_then}
+use Rattle.std.specs.Cmp.Lexicographic.{slice_cmp}
+use Rattle.std.proofs.lemmas.Cmp.{ranked}
+use Rattle.inference.specs.Measure.{Components, Ranking, smaller, equal, greater, compare, is_greater, worse, mirrored, AtMost, ranking_of}
 
--- two components
+-- how two components stand
 pub data Tri (x y : ℕ) : Type 0 where
   below : x < y → Tri x y
   level : x ≡ y → Tri x y
@@ -46,6 +51,27 @@ pub first_difference_decides :
     × (y < x → compare (x ∷ xs) (y ∷ ys) ≡ greater)
     × (x ≡ y → compare (x ∷ xs) (y ∷ ys) ≡ compare xs ys)
 first_difference_decides x y xs ys = (compare_below x y xs ys, compare_above x y xs ys, compare_level x y xs ys)
+
+-- where one begins the other, the shorter is smaller
+pub shorter_is_smaller : (ps xs : Components) (x : ℕ) → compare ps (ps ++ x ∷ xs) ≡ smaller
+unfolding compare
+shorter_is_smaller [] xs x = refl
+shorter_is_smaller (p ∷ ps) xs x = compare_level p p ps (ps ++ x ∷ xs) refl ∙ shorter_is_smaller ps xs x
+
+-- The Rust's order of slices, by which merc compares measures, ranks as measures do.
+pub ranked_as_slices_are : (xs ys : Components) → ranking_of (slice_cmp nat_cmp xs ys) ≡ compare xs ys
+unfolding compare
+ranked_as_slices_are [] [] = refl
+ranked_as_slices_are [] (y ∷ ys) = refl
+ranked_as_slices_are (x ∷ xs) [] = refl
+ranked_as_slices_are (x ∷ xs) (y ∷ ys) =
+    by_first (nat_cmp x y) (slice_cmp nat_cmp xs ys) (ranked x y (nat_cmp x y) refl) (ranked_as_slices_are xs ys)
+  where
+    by_first : (o p : Ordering) → MatchOrdering o (x < y) (x ≡ y) (y < x) → ranking_of p ≡ compare xs ys
+        → ranking_of (ordering_then o p) ≡ compare (x ∷ xs) (y ∷ ys)
+    by_first Less p l q = sym (compare_below x y xs ys l)
+    by_first Equal p l q = q ∙ sym (compare_level x y xs ys l)
+    by_first Greater p l q = sym (compare_above x y xs ys l)
 
 pub compare_mirrored : (xs ys : Components) → compare ys xs ≡ mirrored (compare xs ys)
 unfolding compare

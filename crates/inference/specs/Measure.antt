@@ -1,6 +1,6 @@
 -- The measure: "256 measure components (one per Sub, per Lit, per Join source)". Measures compare
 -- from the front; the first components that differ decide.
-use Rattle.std.specs.Prelude.{Bool, true, false, cond, List, [], ◌∷◌, ℕ, suc, ltb, eqb, length, take, ◌≡◌}
+use Rattle.std.specs.Prelude.{Bool, true, false, cond, List, [], ◌∷◌, ◌++◌, ℕ, suc, ltb, eqb, length, take, ◌≡◌}
 use Rattle.std.specs.declared.cmp.Ordering.{Ordering}
 use Rattle.std.specs.declared.cmp.Ordering.TheVariants.{Less, Equal, Greater}
 
@@ -16,12 +16,18 @@ compare [] (y ∷ ys) = smaller
 compare (x ∷ xs) [] = greater
 compare (x ∷ xs) (y ∷ ys) = cond (ltb x y) smaller (cond (ltb y x) greater (compare xs ys))
 
--- "it also returns how many pairs of components it looked at: up to and with the first that differs, or all of the
--- shorter measure where none does"
+-- of any two lists: "It also returns how many pairs of components it looked at: up to and with the first that differs,
+-- or all of the shorter measure where none does."
 unfoldable pub looked : Components → Components → ℕ
 looked [] ys = 0
 looked (x ∷ xs) [] = 0
 looked (x ∷ xs) (y ∷ ys) = suc (cond (eqb x y) (looked xs ys) 0)
+
+-- Any two measures: they share components up to a first pair that differs, or one of them begins the other.
+pub data Parting : Components → Components → Type 0 where
+  differ : (ps xs ys : Components) (x y : ℕ) → (x ≡ y → ⊥) → Parting (ps ++ x ∷ xs) (ps ++ y ∷ ys)
+  begins : (ps xs : Components) → Parting ps (ps ++ xs)
+  begun : (ps xs : Components) → Parting (ps ++ xs) ps
 
 -- the ranking that an Ordering of the Rust says
 abbrev pub ranking_of : Ordering → Ranking

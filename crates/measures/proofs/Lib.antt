@@ -1,2 +1,2 @@
 -- The laws that the proofs of the code cite.
-pub mod Going
+pub mod Passed

@@ -14,15 +14,15 @@ pub struct Comparison {
 }
 
 // Compares two measures from the front, and ends at the first components that differ, which settle it. Where none do,
-// the shorter measure is the less.
+// the shorter measure is the less, and two as long are equal.
 pub fn compare(measure: &[u16], best: &[u16]) -> Comparison
     ensures ranking { ranking_of result.ordering ≡ compare measure.now best.now }
     ensures count { result.looked ≡ looked measure.now best.now }
 {
     let mut looked = 0;
-    for (component, least) in measure.iter().zip(best) {
+    for (component, other) in measure.iter().zip(best) {
         looked += 1;
-        let ordering = component.cmp(least);
+        let ordering = component.cmp(other);
         if ordering.is_ne() {
             return Comparison { ordering, looked };
         }

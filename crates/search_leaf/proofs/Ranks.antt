@@ -1,12 +1,12 @@
--- Components against the incumbent's, as the code meets them. What is left to compare ranks as the whole does, since what was passed is equal; so a
--- dominated prefix is one that ranks greater than as many components of the incumbent. Assumes nothing.
+-- Components against the incumbent's, as the code meets them: the slices that are compared are the first components of both, so a dominated prefix is
+-- one that ranks greater than as many components of the incumbent. Assumes nothing.
 use mathlib.Core.Path.{◌≡◌, refl, sym, ap, ap₂, ◌∙◌}
 use mathlib.Core.Bool.{Bool, true, false}
-use mathlib.Core.List.{List, [], ◌∷◌}
-use Prim.Native.Nat.{ℕ, ◌+◌, ◌-◌, ◌<◌}
+use mathlib.Core.List.{List}
+use Prim.Native.Nat.{ℕ, ◌+◌, ◌-◌}
 use native.Mathlib.Omega.{arith}
 use lib.ListN.{length, take, drop}
-use Rattle.inference.specs.Measure.{Components, compare, is_greater, worse, ranking_of}
+use Rattle.inference.specs.Measure.{compare, is_greater, worse, ranking_of}
 use Rattle.inference.specs.Search.{dominated_by}
 use Rattle.inference.specs.SolveEntry.{nothing_met}
 use Rattle.search_state.specs.declared.Sizes.{Sizes}

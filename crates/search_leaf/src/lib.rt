@@ -26,7 +26,7 @@ use unification::{Full, InferSortId};
 use words::{put, word};
 
 // How the components of the branch compare with as many of the incumbent's. Where there is no incumbent, they are less.
-// How many of them were looked at goes no further up.
+// How many pairs were looked at is not handed on.
 fn rank(search: &Search<'_>, at: Branch) -> Ordering
     requires { at.measure ≤ max_components }
     ensures { ranking_of result

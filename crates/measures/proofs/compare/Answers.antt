@@ -1,6 +1,6 @@
 -- By the pair at hand: it is passed, or it decides; and where no pair is left, by the lengths. Assumes nothing.
 use Rattle.std.proofs.lemmas.Slice.Zip.{either_empty_from_Zip}
-use Rattle.measures.proofs.Going as law
+use Rattle.measures.proofs.Passed as law
 use Rattle.measures.proofs.compare.Goals as goal
 
 pub returns-then-is_ne-clause-ranking : goal.returns-then-is_ne-clause-ranking
@@ -16,7 +16,7 @@ returns-then-is_ne-clause-count c =
 pub loop-component-preserved : goal.loop-component-preserved
 loop-component-preserved c =
     let (p, q) = c.in-Some.ensures.steps in
-    law.passed _ _ _ _ _ _ _ _ _ c.loop-component.invariant p q _ c.cmp-ordering.ensures c.if-is_ne.ensures
+    law.one_more_passed _ _ _ _ _ _ _ _ _ c.loop-component.invariant p q _ c.cmp-ordering.ensures c.if-is_ne.ensures
 
 pub returns-clause-ranking : goal.returns-clause-ranking
 returns-clause-ranking c =

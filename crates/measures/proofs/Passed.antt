@@ -1,10 +1,10 @@
 -- Two measures passed over from the front. What was passed is equal, so what is left ranks as the whole does, and the pairs that are looked at are those
 -- passed and those of what is left. A pair that differs is the last. Where one measure has ended, the longer one is greater. Assumes nothing.
-use mathlib.Core.Path.{◌≡◌, refl, sym, ap, ◌∙◌}
-use mathlib.Core.Bool.{Bool, true, false}
-use mathlib.Core.List.{List, [], ◌∷◌}
+use mathlib.Core.Path.{◌≡◌, refl, sym, ◌∙◌}
+use mathlib.Core.Bool.{true, false}
+use mathlib.Core.List.{[], ◌∷◌}
 use mathlib.Core.Logic.{◌⊎◌, inl, inr}
-use Prim.Native.Nat.{ℕ, suc, ◌+◌, ◌<◌}
+use Prim.Native.Nat.{ℕ, ◌+◌, ◌<◌}
 use native.Mathlib.Omega.{arith}
 use lib.ListN.{length}
 use Rattle.std.specs.declared.cmp.Ordering.{Ordering}
@@ -17,25 +17,25 @@ use Rattle.inference.proofs.Measures.{compare_level, compare_below, compare_abov
 use Rattle.inference.proofs.Looked.{looked_on, looked_no_further}
 
 -- n pairs are passed, and us and vs are left
-pub record Going (xs ys us vs : Components) (n : ℕ) : Type 0 where
+pub record Passed (xs ys us vs : Components) (n : ℕ) : Type 0 where
   pub ranks : compare us vs ≡ compare xs ys
   pub counts : n + looked us vs ≡ looked xs ys
   pub measure : n + length us ≡ length xs
   pub best : n + length vs ≡ length ys
 
 -- The next pair.
-module _ (xs ys us vs us' vs' : Components) (n x y : ℕ) (g : Going xs ys us vs n) (p : us ≡ x ∷ us') (q : vs ≡ y ∷ vs') (o : Ordering)
+module _ (xs ys us vs us' vs' : Components) (n x y : ℕ) (g : Passed xs ys us vs n) (p : us ≡ x ∷ us') (q : vs ≡ y ∷ vs') (o : Ordering)
     (h : o ≡ nat_cmp x y) where
-  here : Going xs ys (x ∷ us') (y ∷ vs') n
+  here : Passed xs ys (x ∷ us') (y ∷ vs') n
   here = rw (sym p, sym q) g
 
   tells : MatchOrdering o (x < y) (x ≡ y) (y < x)
   tells = ranked x y o h
 
-  pub passed : false ≡ is_ne o → Going xs ys us' vs' (n + 1)
-  passed f = go o f tells
+  pub one_more_passed : false ≡ is_ne o → Passed xs ys us' vs' (n + 1)
+  one_more_passed f = go o f tells
     where
-      go : (o : Ordering) → false ≡ is_ne o → MatchOrdering o (x < y) (x ≡ y) (y < x) → Going xs ys us' vs' (n + 1)
+      go : (o : Ordering) → false ≡ is_ne o → MatchOrdering o (x < y) (x ≡ y) (y < x) → Passed xs ys us' vs' (n + 1)
       go Less f m = no_confusion (cc)
       go Greater f m = no_confusion (cc)
       go Equal f m =
@@ -63,12 +63,12 @@ module _ (xs ys us vs us' vs' : Components) (n x y : ℕ) (g : Going xs ys us vs
       go Equal f m = no_confusion (cc)
 
 -- No pair is left.
-module _ (xs ys us vs : Components) (n : ℕ) (g : Going xs ys us vs n) (e : (us ≡ []) ⊎ (vs ≡ [])) where
+module _ (xs ys us vs : Components) (n : ℕ) (g : Passed xs ys us vs n) (e : (us ≡ []) ⊎ (vs ≡ [])) where
   pub counted_to_the_end : n ≡ looked xs ys
   unfolding looked
   counted_to_the_end = go us vs g e
     where
-      go : (us vs : Components) → Going xs ys us vs n → (us ≡ []) ⊎ (vs ≡ []) → n ≡ looked xs ys
+      go : (us vs : Components) → Passed xs ys us vs n → (us ≡ []) ⊎ (vs ≡ []) → n ≡ looked xs ys
       go [] vs g e = omega (arith, g.counts)
       go (u ∷ us) [] g e = omega (arith, g.counts)
       go (u ∷ us) (v ∷ vs) g (inl f) = no_confusion (cc)
@@ -79,7 +79,7 @@ module _ (xs ys us vs : Components) (n : ℕ) (g : Going xs ys us vs n) (e : (us
   ranked_by_length o h = go us vs o (ranked (length xs) (length ys) o h) g e ∙ g.ranks
     where
       go : (us vs : Components) (o : Ordering) → MatchOrdering o (length xs < length ys) (length xs ≡ length ys) (length ys < length xs)
-          → Going xs ys us vs n → (us ≡ []) ⊎ (vs ≡ []) → ranking_of o ≡ compare us vs
+          → Passed xs ys us vs n → (us ≡ []) ⊎ (vs ≡ []) → ranking_of o ≡ compare us vs
       go [] [] Equal m g e = refl
       go [] [] Less m g e = absurd (omega (arith, m, g.measure, g.best))
       go [] [] Greater m g e = absurd (omega (arith, m, g.measure, g.best))
