@@ -16,6 +16,7 @@ pub looked_on : (x y : ℕ) (xs ys : Components) → x ≡ y → looked (x ∷ x
 unfolding looked
 looked_on x y xs ys e = rw (eq-eqb x y e)
 
+-- a pair that differs is the last
 pub looked_no_further : (x y : ℕ) (xs ys : Components) → (x ≡ y → ⊥) → looked (x ∷ xs) (y ∷ ys) ≡ 1
 unfolding looked
 looked_no_further x y xs ys n = rw (ne_eqb x y n)
@@ -51,12 +52,12 @@ every_two_differ_or_begin (x ∷ xs) (y ∷ ys) = go (eqb x y) refl (every_two_d
     go false e h = differ [] xs ys x y (eqb-false x y e)
 
 -- So the two laws say the number of every two measures.
-pub two_laws_say_the_number :
+pub counts_alike_are_looked :
     (f : Components → Components → ℕ)
     → ((ps xs ys : Components) (x y : ℕ) → (x ≡ y → ⊥) → f (ps ++ x ∷ xs) (ps ++ y ∷ ys) ≡ suc (length ps))
     → ((ps xs : Components) → (f ps (ps ++ xs) ≡ length ps) × (f (ps ++ xs) ps ≡ length ps))
     → (xs ys : Components) → f xs ys ≡ looked xs ys
-two_laws_say_the_number f d s xs ys = go xs ys (every_two_differ_or_begin xs ys)
+counts_alike_are_looked f d s xs ys = go xs ys (every_two_differ_or_begin xs ys)
   where
     go : (xs ys : Components) → Parting xs ys → f xs ys ≡ looked xs ys
     go _ _ (differ ps us vs u v n) = d ps us vs u v n ∙ sym (looked_to_the_difference ps us vs u v n)
