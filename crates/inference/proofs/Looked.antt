@@ -36,12 +36,13 @@ looked_at_all_of_the_shorter (p ∷ ps) xs =
     let h = looked_at_all_of_the_shorter ps xs in
     (looked_on p p ps (ps ++ xs) refl ∙ ap suc h.0, looked_on p p (ps ++ xs) ps refl ∙ ap suc h.1)
 
--- Every two measures are of one of these kinds.
+-- what comes before both, shared
 further : (x y : ℕ) (xs ys : Components) → x ≡ y → Parting xs ys → Parting (x ∷ xs) (y ∷ ys)
 further x y _ _ e (differ ps us vs u v n) = subst (λ (z : ℕ). Parting (x ∷ ps ++ u ∷ us) (z ∷ ps ++ v ∷ vs)) e (differ (x ∷ ps) us vs u v n)
 further x y _ _ e (begins ps us) = subst (λ (z : ℕ). Parting (x ∷ ps) (z ∷ ps ++ us)) e (begins (x ∷ ps) us)
 further x y _ _ e (begun ps us) = subst (λ (z : ℕ). Parting (x ∷ ps ++ us) (z ∷ ps)) e (begun (x ∷ ps) us)
 
+-- Every two measures are of one of the three kinds.
 pub every_two_differ_or_begin : (xs ys : Components) → Parting xs ys
 every_two_differ_or_begin [] ys = begins [] ys
 every_two_differ_or_begin (x ∷ xs) [] = begun [] (x ∷ xs)

@@ -1,5 +1,6 @@
--- Measures are in a total order, from the front, and rank as the Rust's slices do. Components that differ first decide, so each law is by the first components: below, level or above.
--- A prefix is worse than the incumbent exactly if every measure that begins with it is greater: "Pruning is exact". Assumes nothing.
+-- Measures are in a total order, from the front, and rank as the Rust's slices do. Components that differ first decide, so each law is by the first
+-- components: below, level or above. A prefix is worse than the incumbent exactly if every measure that begins with it is greater: "Pruning is exact".
+-- Assumes nothing.
 use mathlib.Core.Path.{◌≡◌, refl, sym, ap, ap₂, subst, ◌∙◌}
 use mathlib.Core.Bool.{Bool, true, false}
 use mathlib.Core.List.{[], ◌∷◌, ◌++◌}

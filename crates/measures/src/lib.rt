@@ -15,6 +15,7 @@ pub struct Comparison {
 
 // Compares two measures from the front, and ends at the first components that differ, which settle it. Where none do,
 // the shorter measure is the less, and two as long are equal.
+// Ruled out: a count without the pair that differs; one of pairs behind it.
 pub fn compare(measure: &[u16], best: &[u16]) -> Comparison
     ensures ranking { ranking_of result.ordering ≡ compare measure.now best.now }
     ensures count { result.looked ≡ looked measure.now best.now }
