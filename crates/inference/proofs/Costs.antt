@@ -14,7 +14,7 @@ use Rattle.resolved_sort.specs.declared.Run.{Run}
 use Rattle.resolved_sort.specs.declared.SortId.{SortId}
 use Rattle.resolved_sort.specs.declared.Sort.{Sort}
 use Rattle.resolved_sort.specs.Tree.{Tree, Trees, primitive, flat, function, level, same}
-use Rattle.resolved_sort.specs.Order.{le, join, Steps, distance, map₁, materializable, is_function}
+use Rattle.resolved_sort.specs.Order.{le, Steps, distance, map₁, materializable, is_function}
 use Rattle.resolved_sort.specs.Exact.{total, exact, stopped}
 use Rattle.resolved_sort.proofs.Numbers.{true_not_false}
 use Rattle.resolved_sort.proofs.Same.{same_exactly}
@@ -24,7 +24,7 @@ use Rattle.resolved_sort.proofs.Materializable.{materializable_refl}
 use Rattle.resolved_sort.proofs.Reached.{no_confusion}
 use Rattle.unification.specs.declared.InferSortId.{InferSortId}
 use Rattle.unification.specs.Term.{Shape}
-use Rattle.unification.specs.Related.{related, Member, first, later}
+use Rattle.unification.specs.Related.{Member, first, later}
 use Rattle.unification.specs.Reference.{Distant, Conversions, no_more}
 use Rattle.unification.proofs.Wider.{nearest_first, related_exactly}
 use Rattle.unification.proofs.WiderReference.{wider_by_conversions, function_by_range}

@@ -1,8 +1,7 @@
 -- Words that are no kind of a name, or of a literal. By the first numbers one by one. Assumes nothing.
 use mathlib.Core.Path.{◌≡◌, refl}
 use Prim.Native.Nat.{ℕ, zero, suc}
-use Rattle.std.specs.Prelude.{Result, Ok, Err}
-use Rattle.inference.specs.declared.UnknownKind.{UnknownKind}
+use Rattle.std.specs.Prelude.{Err}
 use Rattle.inference.specs.Kinds.{kind_of_name, kind_of_literal}
 
 pub no_name : (n : ℕ) → (n ≡ 1 → ⊥) → (n ≡ 2 → ⊥) → (n ≡ 3 → ⊥) → Err (record { 0 = n }) ≡ kind_of_name n

@@ -4,9 +4,9 @@
 use mathlib.Core.Path.{◌≡◌, refl, sym, ap, subst, ◌∙◌}
 use mathlib.Core.Bool.{Bool, true, false, cond}
 use mathlib.Core.List.{List, [], ◌∷◌, map}
-use mathlib.Core.Option.{Option, none, some}
+use mathlib.Core.Option.{none, some}
 use mathlib.Core.Logic.{◌⊎◌, inl, inr, ◌↔◌}
-use Prim.Native.Nat.{ℕ, zero, suc, ◌+◌, ◌*◌, ◌<◌}
+use Prim.Native.Nat.{ℕ, suc, ◌+◌, ◌*◌, ◌<◌}
 use native.Mathlib.Omega.{arith}
 use lib.Dec.{eqb}
 use lib.ListN.{length, get_or, length-map}
@@ -22,7 +22,6 @@ use Rattle.resolved_sort.specs.Rows.{AllBelow}
 use Rattle.resolved_sort.specs.Checks.{first_failing, code_of as code_of_refusal}
 use Rattle.resolved_sort.specs.Entries.{tree_at}
 use Rattle.resolved_sort.proofs.SameNumbers.{number_of_tree}
-use Rattle.resolved_sort.proofs.Reached.{no_confusion}
 use Rattle.unification.specs.declared.InferSortId.{InferSortId}
 use Rattle.unification.specs.Term.{Shape}
 use Rattle.unification.specs.Nodes.{Binds, binding, node_entry_at}
@@ -37,7 +36,7 @@ use Rattle.inference.specs.declared.Constraint.{Constraint}
 use Rattle.inference.specs.declared.Constraint.TheVariants.{Disjunction}
 use Rattle.inference.specs.Constraints.{Problem}
 use Rattle.inference.specs.Measure.{Components, Ranking, smaller, equal, greater, compare}
-use Rattle.inference.specs.Search.{Choice, World, Out, ended, says}
+use Rattle.inference.specs.Search.{Choice, World, ended, says}
 use Rattle.inference.specs.Names.{run_for, overload_in, chosen_name, base_name, name_of, name_kind, name_sort}
 use Rattle.inference.specs.Typing.{Assignment, Has, In, Typed, all_typed, and_typed, Meets, HoldsTogether}
 use Rattle.inference.specs.Typing.{NumberSort, is_pos, is_nat, is_int, is_real}
@@ -46,7 +45,7 @@ use Rattle.inference.specs.SolveEntry.{Solved, problem_of, base_names_of, lent_o
 use Rattle.inference.specs.SolveEntry.{code_solved, measure_out, choices_out, TypingOr15}
 use Rattle.inference.specs.Explained.{Explained}
 use Rattle.inference.specs.Named.{expr_of, choice, Named}
-use Rattle.inference.specs.Leaves.{once, times, Least, met_of, code_left, HandsOut, ByLeaves}
+use Rattle.inference.specs.Leaves.{once, times, Least, met_of, code_left, ByLeaves}
 use Rattle.inference.specs.ListsLeft.{counts_told, SortsGrown, ListsKept, Ends}
 use Rattle.inference.proofs.Members.{in_all}
 use Rattle.inference.proofs.Measures.{compare_self, equal_are_one}

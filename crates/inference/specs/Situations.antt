@@ -1,6 +1,6 @@
 -- The 11 starred situations of document 01, as one list with its 13 runs: what is given, and code, sorts of the
 -- expressions and measure.
-use Rattle.std.specs.Prelude.{Bool, List, [], ◌∷◌, ◌++◌, map, ℕ, ◌+◌, ◌*◌, ◌-◌, ◌/◌, length, replicate, take, get_or, Ok}
+use Rattle.std.specs.Prelude.{List, [], ◌∷◌, ◌++◌, map, ℕ, ◌+◌, ◌*◌, ◌-◌, ◌/◌, length, replicate, take, get_or, Ok}
 use Rattle.std.specs.Prelude.{Err}
 use Rattle.resolved_sort.specs.declared.Sort.{Sort}
 use Rattle.resolved_sort.specs.Tree.{Tree, flat, primitive, function, no_args, arg}

@@ -11,10 +11,10 @@ use seplogic.Ra.Ura.{Ura}
 use base.Fraction.{full_share}
 use mir.Syntax.{ty_array}
 use mir.Val.{Val}
-use base.Logic.{ent, sep, ex, via}
+use base.Logic.{ent, sep, ex}
 use base.Fml.{fat}
 use types.Logic.{Logic, sem}
-use types.Kit.{‵, ◌$◌, ◌∵◌, !, qed, by, move, use1, use2, fsplit, fjoin, feq_l, feq_i, done}
+use types.Kit.{‵, ◌$◌, ◌∵◌, !, qed, by, use1, use2, fsplit, fjoin, feq_l, feq_i, done}
 use types.SemTy.{cells, Arr}
 use types.Share.{arr_parts}
 use denote.RattleType.{RattleType}
