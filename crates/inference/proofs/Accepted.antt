@@ -1,10 +1,9 @@
 -- What the checks of the solver say of a call that passes them: lists and bindings that are ready, with the fixed six sorts; a default of the list;
--- expressions and constraints whose places, sorts and runs are those of the lists; and one disjunction for an expression. The checks, taken apart. So a
--- call is refused, with the code of a check, or it is accepted and searched. Assumes nothing.
+-- expressions and constraints whose places, sorts and runs are those of the lists; and at most one disjunction for an expression, which is one of the call's.
+-- The checks, taken apart. So a call is refused, with the code of a check, or it is accepted and searched. Assumes nothing.
 use mathlib.Core.Path.{◌≡◌, refl, sym, subst}
-use mathlib.Core.Bool.{Bool, true, false, cond, ◌&&◌, and-eq-true_iff}
-use mathlib.Core.List.{List, [], ◌∷◌}
-use mathlib.Core.Option.{Option, none, some}
+use mathlib.Core.Bool.{true, ◌&&◌, and-eq-true_iff}
+use mathlib.Core.List.{List}
 use Prim.Native.Nat.{ℕ, ◌+◌, ◌*◌, ◌<◌, ◌≤◌}
 use native.Mathlib.Omega.{arith}
 use lib.Dec.{leb, ltb}
@@ -19,7 +18,6 @@ use Rattle.resolved_sort.specs.declared.Refusal.TheVariants.{NotInList, NoText, 
 use Rattle.resolved_sort.specs.Checks.{code_of, first_failing, within_lent, fixed_six, rows_fine, no_two_equal, at_ceiling, Tested}
 use Rattle.resolved_sort.specs.Entries.{refused_or}
 use Rattle.resolved_sort.proofs.Below.{below_each}
-use Rattle.resolved_sort.proofs.Reached.{no_confusion}
 use Rattle.resolved_sort.proofs.FirstFailing.{cons_passes}
 use Rattle.unification.specs.Nodes.{full_nodes, binds_of}
 use Rattle.unification.specs.Acyclic.{acyclic}
@@ -33,12 +31,12 @@ use Rattle.inference.specs.declared.Constraint.{Constraint}
 use Rattle.inference.specs.declared.Constraint.TheVariants.{Sub, Lit, Disjunction, Comprehension, Join}
 use Rattle.inference.specs.Constraints.{max_components, constraint_at, overload_at, Problem}
 use Rattle.inference.specs.Names.{overload_in}
-use Rattle.inference.specs.SolveChecks.{Call, placed, given, disjunctions, no_two, keys, rows_within_lent}
+use Rattle.inference.specs.SolveChecks.{Call, placed, given, disjunction_for, disjunctions, no_two, keys, rows_within_lent}
 use Rattle.inference.specs.SolveChecks.{all_within_lent, exprs_fine, names_fine, overload_fine, target_fine, run_fine}
 use Rattle.inference.specs.SolveChecks.{constraint_fine, constraints_fine, outputs_long, long_enough, solve_checks}
 use Rattle.inference.specs.SolveChecks.{joins_fine, components as componentCount}
 use Rattle.inference.specs.SolveEntry.{problem_of, lent_of, SolveLeft, searched, refused, verdict, nothing_met, solve_entry}
-use Rattle.inference.specs.Typing.{All}
+use Rattle.inference.specs.Typing.{All, none_left, and_all}
 use Rattle.inference.proofs.Members.{length_rows, all_rows, row_at_lem, all_rows_at, run_at}
 use Rattle.inference.specs.Inner.Listed.{ListedConstraint, sub_listed, lit_listed, disjunction_listed, comprehension_listed, join_listed}
 
@@ -113,14 +111,36 @@ module _ (I : Call) where
       let y = sources_placed run x.1 in
       join_listed run t x.0 y.0 y.1
 
-  constraint_listed : constraints_fine I ≡ true → (j : ℕ) → j < I.rows.constraints → ListedConstraint W P (constraint_at I.constraints j)
+  constraint_is_fine : constraints_fine I ≡ true → (j : ℕ) → j < I.rows.constraints
+      → constraint_fine I (get_or I.constraints (5 * j + 2) 0) (constraint_at I.constraints j) ≡ true
   unfolding constraints_fine
-  constraint_listed f j l =
+  constraint_is_fine f j l =
       let x = below_each I.rows.constraints (λ i. leb (get_or I.constraints (5 * i) 0) 4 && constraint_fine I
       (get_or I.constraints (5 * i + 2) 0) (constraint_at I.constraints i)) f j l in
-      listed_by (get_or I.constraints (5 * j + 2) 0) (constraint_at I.constraints j)
       ((and-eq-true_iff (leb (get_or I.constraints (5 * j) 0) 4) (constraint_fine I (get_or I.constraints (5 * j + 2)
       0) (constraint_at I.constraints j))).0 x).1
+
+  constraint_listed : constraints_fine I ≡ true → (j : ℕ) → j < I.rows.constraints → ListedConstraint W P (constraint_at I.constraints j)
+  constraint_listed f j l = listed_by (get_or I.constraints (5 * j + 2) 0) (constraint_at I.constraints j) (constraint_is_fine f j l)
+
+  -- a disjunction is for an expression of the call
+  abbrev ForExpression : Constraint → Type 0
+  ForExpression c = (xs : List ℕ) → All (λ x. x < I.rows.exprs) xs → All (λ x. x < I.rows.exprs) (disjunction_for c xs)
+
+  for_expression : (b : ℕ) (c : Constraint) → constraint_fine I b c ≡ true → ForExpression c
+  for_expression b (Sub l r) f xs a = a
+  for_expression b (Lit p kind) f xs a = a
+  for_expression b (Disjunction x p run) f xs a =
+      let y = (and-eq-true_iff (ltb x.0 I.rows.exprs && placed I p.0) (run_fine I I.rows.overloads (overload_fine I) run)).0 f in
+      let z = (and-eq-true_iff (ltb x.0 I.rows.exprs) (placed I p.0)).0 y.0 in
+      and_all x.0 xs (ltb-true x.0 I.rows.exprs z.0) a
+  for_expression b (Comprehension body node element) f xs a = a
+  for_expression b (Join run t) f xs a = a
+
+  all_for_expressions : (cs : List Constraint) → All ForExpression cs → All (λ x. x < I.rows.exprs) (disjunctions cs)
+  unfolding disjunctions
+  all_for_expressions _ none_left = none_left
+  all_for_expressions _ (and_all c cs f a) = f (disjunctions cs) (all_for_expressions cs a)
 
   pub within : all_within_lent I ≡ true
       → (within_lent I.sorts I.lengths.sorts I.lengths.entries ≡ true) × (nodes_within_lent I.nodes
@@ -198,6 +218,7 @@ module _ (I : Call) where
     pub exprs : All (PlacedIn W) P.exprs
     pub constraints : All (ListedConstraint W P) P.constraints
     pub one_disjunction_each : no_two (disjunctions P.constraints) ≡ true
+    pub for_expressions : All (λ x. x < I.rows.exprs) (disjunctions P.constraints)
 
   pub accepted : first_failing (solve_checks I) ≡ Ok tt → Accepted
   unfolding solve_checks node_checks all_within_lent exprs_fine constraints_fine long_enough
@@ -218,6 +239,8 @@ module _ (I : Call) where
             I.rows.exprs (λ i. placed I (get_or I.exprs i 0)) e.0 j m);
         constraints = all_rows_at (ListedConstraint W P) (constraint_at I.constraints) I.rows.constraints (constraint_listed c.constraints);
         one_disjunction_each = ((and-eq-true_iff (no_two (disjunctions (given I))) (no_two (keys I))).0 c.one_each).0;
+        for_expressions = all_for_expressions (given I) (all_rows_at ForExpression (constraint_at I.constraints) I.rows.constraints
+            (λ j m. for_expression (get_or I.constraints (5 * j + 2) 0) (constraint_at I.constraints j) (constraint_is_fine c.constraints j m)));
       }
 
   -- By the first check that fails, or where none does.

@@ -1,17 +1,18 @@
 -- Choices and names. What the search keeps has one component for each Sub, Lit and Join source, and one choice for each disjunction, in the order
 -- of the constraints, its position below its run's count: so is every path on which a leaf is reached. For a call with code 0 each disjunction has
 -- exactly one choice, since by check 10 no two are for one expression; its chosen overload's target is the name of its expression, and the other
--- expressions keep their base names. Assumes nothing.
+-- expressions keep their base names. What is handed out are these choices by rising expression number, all of them, since by check 9 each is for an
+-- expression of the call: so it says the same. Assumes nothing.
 use mathlib.Core.Path.{◌≡◌, refl, sym, ap, ap₂, subst, ◌∙◌}
-use mathlib.Core.Bool.{Bool, true, false, cond, not, ◌||◌, and-eq-true_iff}
+use mathlib.Core.Bool.{Bool, true, false, cond, ◌||◌}
 use mathlib.Core.List.{List, [], ◌∷◌, ◌++◌, map}
 use mathlib.Core.Option.{Option, none, some}
-use mathlib.Core.Logic.{◌⊎◌, inl, inr}
+use mathlib.Core.Logic.{◌⊎◌, inl, inr, ◌↔◌}
 use Prim.Native.Nat.{ℕ, ◌+◌, ◌<◌}
 use native.Mathlib.Omega.{arith}
 use lib.Dec.{eqb}
-use lib.ListN.{length, drop, length-take, length-drop}
-use borrow.Author.Tests.{eqb-true, eqb-false, eq-eqb, ne_eqb, not-true}
+use lib.ListN.{length, drop, get_or, length-take, length-drop, length-map}
+use borrow.Author.Tests.{eqb-true, eqb-false, eq-eqb, ne_eqb}
 use Rattle.resolved_sort.specs.declared.Run.{Run}
 use Rattle.resolved_sort.proofs.Reached.{no_confusion}
 use Rattle.unification.specs.declared.InferSortId.{InferSortId}
@@ -23,16 +24,19 @@ use Rattle.std.specs.Prelude.{Ok}
 use Rattle.inference.specs.declared.Verdict.TheVariants.{Typing}
 use Rattle.inference.specs.declared.Constraint.{Constraint}
 use Rattle.inference.specs.declared.Constraint.TheVariants.{Sub, Lit, Disjunction, Comprehension, Join}
-use Rattle.inference.specs.Constraints.{BaseName, Problem}
+use Rattle.inference.specs.Constraints.{BaseName, rows_from, Problem}
 use Rattle.inference.specs.Search.{Choice, Path, Candidate, World, Out, found, missed, ended, lending, leaf, solve}
 use Rattle.inference.specs.Names.{run_for, target_in, chosen_name, base_name, name_of}
 use Rattle.inference.specs.Typing.{All, none_left, and_all, In, here, there}
 use Rattle.inference.specs.SolveChecks.{Call, given, disjunction_for, disjunctions, among, no_two, components_of, components}
 use Rattle.inference.specs.SolveEntry.{problem_of, base_names_of, start_path, lent_of, searched, SolveLeft}
 use Rattle.inference.specs.SolveEntry.{counts_in, typed, judged_by, judged, verdict, nothing_met, solve_entry}
-use Rattle.inference.specs.SolveEntry.{room_refusal, code_solved, choices_out}
-use Rattle.inference.proofs.Members.{not_in_nothing, in_cases, first_in, in_right}
+use Rattle.inference.specs.SolveEntry.{room_refusal, code_solved, choice_at, choices_out}
+use Rattle.inference.proofs.Members.{not_in_nothing, in_cases, first_in, in_right, in_map, length_rows, among_in, not_among, no_two_first}
 use Rattle.inference.proofs.HandedOut.{choices_read}
+use Rattle.inference.proofs.Rising.{AllFor, among_alike, alike_name_the_same, length_rising}
+use Rattle.inference.proofs.Rising.{rising_keeps_each, rising_has_exactly, rising_rises, only_one_rises}
+use Rattle.inference.specs.Rising.{choices_for, rising, RisingNumbers}
 use Rattle.inference.specs.Inner.Listed.{ListedConstraint, sub_listed, lit_listed, disjunction_listed, comprehension_listed, join_listed}
 use Rattle.inference.proofs.Accepted.{Accepted, refusal_above_0, refused_or_searched}
 use Rattle.inference.proofs.Branches.{newcomer, NoChoice, Chooses, Choosing, none_to_choose, and_chooses, width_of, width, Goes, leaf_goes, search_goes}
@@ -126,36 +130,6 @@ disjunction_has_choice x p run _ _ (and_chooses c cs ks ls h y) i = go (in_cases
     go (inl e) f = here_chosen (subst (λ d. Chooses d ks) (sym e) h)
     go (inr j) f = let z = f j in (z.0, z.1, in_right (choice x.0 z.0) ks ls z.2)
 
--- numbers among others
-among_here : (x y : ℕ) (ys : List ℕ) → x ≡ y → among x (y ∷ ys) ≡ true
-unfolding among
-among_here x y ys e = rw (eq-eqb x y e)
-
-among_there : (x y : ℕ) (ys : List ℕ) → among x ys ≡ true → among x (y ∷ ys) ≡ true
-unfolding among
-among_there x y ys h = go (eqb x y)
-  where
-    go : (b : Bool) → cond b true (among x ys) ≡ true
-    go true = refl
-    go false = h
-
-not_among : (x y : ℕ) (ys : List ℕ) → among x (y ∷ ys) ≡ false → (x ≡ y → ⊥) × (among x ys ≡ false)
-unfolding among
-not_among x y ys a = go (eqb x y) refl a
-  where
-    go : (b : Bool) → eqb x y ≡ b → cond b true (among x ys) ≡ false → (x ≡ y → ⊥) × (among x ys ≡ false)
-    go true e a = no_confusion (cc)
-    go false e a = (eqb-false x y e, a)
-
-choice_among : (k : Choice) (ks : List Choice) → In k ks → among k.expr (map expr_of ks) ≡ true
-choice_among k _ (here ks) = among_here k.expr k.expr (map expr_of ks) refl
-choice_among k _ (there j ks i) = among_there k.expr j.expr (map expr_of ks) (choice_among k ks i)
-
--- "Two disjunctions .. are for one expression": not so
-no_two_first : (x : ℕ) (xs : List ℕ) → no_two (x ∷ xs) ≡ true → (among x xs ≡ false) × (no_two xs ≡ true)
-unfolding no_two
-no_two_first x xs h = let q = (and-eq-true_iff (not (among x xs)) (no_two xs)).0 h in (not-true (among x xs) q.0, q.1)
-
 pub one_choice : (x i j : ℕ) (ks : List Choice) → no_two (map expr_of ks) ≡ true → In (choice x i) ks → In (choice x j) ks → i ≡ j
 one_choice x i j [] n a b = absurd (not_in_nothing _ a)
 one_choice x i j (k ∷ ks) n a b = go (in_cases (choice x i) k ks a) (in_cases (choice x j) k ks b) (one_choice x i j ks rest.1)
@@ -164,7 +138,7 @@ one_choice x i j (k ∷ ks) n a b = go (in_cases (choice x i) k ks a) (in_cases 
     rest = no_two_first k.expr (map expr_of ks) n
 
     twice : (n : ℕ) → choice x n ≡ k → (m : ℕ) → In (choice x m) ks → ⊥
-    twice n e m l = let z : true ≡ false = sym (choice_among (choice x m) ks l) ∙ (ap (λ y. among y (map expr_of ks))
+    twice n e m l = let z : true ≡ false = sym (among_in x (map expr_of ks) (in_map expr_of (choice x m) ks l)) ∙ (ap (λ y. among y (map expr_of ks))
         (ap expr_of e) ∙ rest.0) in no_confusion (cc)
 
     go : (choice x i ≡ k) ⊎ In (choice x i) ks → (choice x j ≡ k) ⊎ In (choice x j) ks → (In (choice x i) ks → In (choice x j) ks → i ≡ j) → i ≡ j
@@ -174,15 +148,15 @@ one_choice x i j (k ∷ ks) n a b = go (in_cases (choice x i) k ks a) (in_cases 
     go (inr l) (inr m) h = h l m
 
 -- the run of an expression's disjunction
-disjunction_among : (x : ExprId) (p : InferSortId) (run : Run) (cs : List Constraint) → In (Disjunction x p run) cs → among x.0 (disjunctions cs) ≡ true
+disjunction_in : (x : ExprId) (p : InferSortId) (run : Run) (cs : List Constraint) → In (Disjunction x p run) cs → In x.0 (disjunctions cs)
 unfolding disjunctions
-disjunction_among x p run _ (here cs) = among_here x.0 x.0 (disjunctions cs) refl
-disjunction_among x p run _ (there c cs i) = go c (disjunction_among x p run cs i)
+disjunction_in x p run _ (here cs) = here (disjunctions cs)
+disjunction_in x p run _ (there c cs i) = go c (disjunction_in x p run cs i)
   where
-    go : (c : Constraint) → among x.0 (disjunctions cs) ≡ true → among x.0 (disjunction_for c (disjunctions cs)) ≡ true
+    go : (c : Constraint) → In x.0 (disjunctions cs) → In x.0 (disjunction_for c (disjunctions cs))
     go (Sub l r) h = h
     go (Lit q kind) h = h
-    go (Disjunction y q r) h = among_there x.0 y.0 (disjunctions cs) h
+    go (Disjunction y q r) h = there y.0 (disjunctions cs) h
     go (Comprehension body node element) h = h
     go (Join r t) h = h
 
@@ -199,7 +173,7 @@ run_of_disjunction x p run _ n (there c cs i) = go c n (λ m. run_of_disjunction
     go (Disjunction y q r) n h =
         let z = no_two_first y.0 (disjunctions cs) n in
         let other : eqb y.0 x.0 ≡ false = ne_eqb y.0 x.0 (λ e. let f : true ≡ false = sym
-        (disjunction_among x p run cs i) ∙ (ap (λ v. among v (disjunctions cs)) (sym e) ∙ z.0) in no_confusion
+        (among_in x.0 (disjunctions cs) (disjunction_in x p run cs i)) ∙ (ap (λ v. among v (disjunctions cs)) (sym e) ∙ z.0) in no_confusion
         (cc)) in
         rw other (h z.1)
     go (Comprehension body node element) n h = h n
@@ -248,6 +222,53 @@ module _ (P : Problem) (bs : List BaseName) (ks : List Choice) (choosing : Choos
   unfolding name_of
   others_keep_base_names x a = rw (not_chosen P x ks (ap (among x) (choices_in_order P.constraints ks choosing) ∙ a))
 
+-- The choices of a candidate, and what is handed out of them.
+module _ (I : Call) (A : Accepted I) (c : Candidate) (f : Fits (problem_of I) (given I) c) where
+  abbrev P : Problem
+  P = problem_of I
+
+  exprs_chosen : map expr_of c.choices ≡ disjunctions (given I)
+  exprs_chosen = choices_in_order (given I) c.choices f.choices
+
+  no_two_chosen : no_two (map expr_of c.choices) ≡ true
+  no_two_chosen = ap no_two exprs_chosen ∙ A.one_disjunction_each
+
+  all_for : AllFor (length P.exprs) c.choices
+  all_for =
+      subst (λ xs. All (λ x. x < length P.exprs) xs) (sym exprs_chosen)
+      (subst (λ (n : ℕ). All (λ x. x < n) (disjunctions (given I))) (sym (length_rows (λ i. get_or I.exprs i 0) 0 I.rows.exprs)) A.for_expressions)
+
+  pub as_many_told : length (rising P c.choices) ≡ length c.choices
+  as_many_told = length_rising (length P.exprs) c.choices all_for
+
+  told_alike : (x : ℕ) → choices_for x (rising P c.choices) ≡ choices_for x c.choices
+  told_alike = rising_keeps_each (length P.exprs) c.choices all_for
+
+  pub told_has_exactly : (k : Choice) → In k (rising P c.choices) ↔ In k c.choices
+  told_has_exactly = rising_has_exactly (length P.exprs) c.choices all_for
+
+  told_rises : RisingNumbers (map expr_of (rising P c.choices))
+  told_rises = rising_rises c.choices no_two_chosen 0 (length P.exprs)
+
+  -- no other list of these choices rises
+  pub only_told_rises : (ks : List Choice) → RisingNumbers (map expr_of ks) → ((k : Choice) → In k ks ↔ In k c.choices) → ks ≡ rising P c.choices
+  only_told_rises ks r h =
+      only_one_rises ks (rising P c.choices) r told_rises
+      (λ k. (λ i. (told_has_exactly k).1 ((h k).0 i), λ i. (h k).1 ((told_has_exactly k).0 i)))
+
+  pub told_names : (x : ℕ) → name_of P (base_names_of I) (rising P c.choices) x ≡ name_of P (base_names_of I) c.choices x
+  told_names = alike_name_the_same P (base_names_of I) (rising P c.choices) c.choices told_alike
+
+  told_for : (x : ℕ) → among x (map expr_of (rising P c.choices)) ≡ among x (disjunctions (given I))
+  told_for x = among_alike x (rising P c.choices) c.choices (told_alike x) ∙ ap (among x) exprs_chosen
+
+  -- what is read of the rows that are handed out
+  pub told_is_read : (W : Lent) (o : Outputs) → (typed I W c).answer ≡ Ok (Typing o) → choices_out (typed I W c) o ≡ rising P c.choices
+  told_is_read W o e =
+      let q : o ≡ record { counts = counts_in W; components = length c.measure; choices = length c.choices } = cc in
+      ap (λ (z : Outputs). choices_out (typed I W c) z) q
+      ∙ (ap (rows_from (choice_at (typed I W c).choices) 0) (sym as_many_told) ∙ choices_read (rising P c.choices) _)
+
 -- what a call leaves that hands out a typing
 pub record IsTyping (I : Call) (left : SolveLeft) : Type 0 where
   pub accepted : Accepted I
@@ -290,22 +311,33 @@ names_and_choices I o e = named (solve_entry I) t.is e
 
     named : (L : SolveLeft) → L ≡ typed I t.lent t.candidate → L.answer ≡ Ok (Typing o) → Named I L o (choices_out L o)
     named L i a =
-        let ks = t.candidate.choices in
-        let b : (typed I t.lent t.candidate).answer ≡ Ok (Typing o) = ap (λ (z : SolveLeft). z.answer) (sym i) ∙ a in
-        let q : o ≡ record { counts = counts_in t.lent; components = length t.candidate.measure; choices = length t.candidate.choices } = cc in
-        let r : choices_out L o ≡ ks = ap (λ (z : SolveLeft). choices_out z o) i ∙
-        (ap (λ (z : Outputs). choices_out (typed I t.lent t.candidate) z) q ∙ choices_read
-        t.candidate.choices _) in
-        let two : no_two (map expr_of ks) ≡ true = ap no_two (choices_in_order (given I) ks t.fits.choices) ∙ t.accepted.one_disjunction_each in
+        let A = t.accepted in
+        let c = t.candidate in
+        let f = t.fits in
+        let bs = base_names_of I in
+        let b : (typed I t.lent c).answer ≡ Ok (Typing o) = ap (λ (z : SolveLeft). z.answer) (sym i) ∙ a in
+        let q : o ≡ record { counts = counts_in t.lent; components = length c.measure; choices = length c.choices } = cc in
+        let r : choices_out L o ≡ rising (problem_of I) c.choices = ap (λ (z : SolveLeft). choices_out z o) i ∙ told_is_read I A c f t.lent o b in
+        let among_both = told_has_exactly I A c f in
         subst (Named I L o) (sym r)
         (record {
-          measure = t.candidate.measure;
+          measure = c.measure;
           measure_handed_out = ap (λ (z : SolveLeft). z.measure) i;
           handed_out = ap (λ (z : Outputs). z.components) q;
-          component_count = t.fits.components ∙ width_is_components (lent_of I) (problem_of I) (given I) t.accepted.constraints;
-          choice_count = ap (λ (z : Outputs). z.choices) q;
-          in_order = choices_in_order (given I) ks t.fits.choices;
-          once = λ x m n. one_choice x m n ks two;
-          chosen = disjunction_named (problem_of I) (base_names_of I) ks t.fits.choices t.accepted.one_disjunction_each;
-          others = others_keep_base_names (problem_of I) (base_names_of I) ks t.fits.choices t.accepted.one_disjunction_each;
+          component_count = f.components ∙ width_is_components (lent_of I) (problem_of I) (given I) A.constraints;
+          choice_count = ap (λ (z : Outputs). z.choices) q ∙ sym (as_many_told I A c f);
+          as_many = as_many_told I A c f ∙ (sym (length-map c.choices expr_of) ∙ ap length (exprs_chosen I A c f));
+          rises = told_rises I A c f;
+          for_disjunctions = told_for I A c f;
+          once = λ x m n j l. one_choice x m n c.choices (no_two_chosen I A c f) ((among_both (choice x m)).0 j) ((among_both (choice x n)).0 l);
+          chosen = λ x p run d.
+              let h = disjunction_named (problem_of I) bs c.choices f.choices A.one_disjunction_each x p run d in
+              record {
+                position = h.position;
+                below = h.below;
+                among_choices = (among_both (choice x.0 h.position)).1 h.among_choices;
+                only = λ j l. h.only j ((among_both (choice x.0 j)).0 l);
+                name = told_names I A c f x.0 ∙ h.name;
+              };
+          others = λ x a. told_names I A c f x ∙ others_keep_base_names (problem_of I) bs c.choices f.choices A.one_disjunction_each x a;
         })

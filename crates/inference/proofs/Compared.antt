@@ -258,6 +258,11 @@ cases =
       given [] [] (four_words 14 0 0 0 []) [] (65535 ∷ []) (1024 ∷ []) [] (row_disjunction 0 1024 0 3 (row_sub 1024 3 [])) (2 ∷ 2 ∷ 2 ∷ 2 ∷ 2 ∷ 2 ∷ 2 ∷ 3 ∷ 3 ∷ []) [] 1,
       outcome 0 (expr 3 2 3 []) (0 ∷ []) (choice 0 2 []) [] [],
     )
+    -- disjunctions out of expression order
+    ∷ (
+      given [] [] [] [] [] (2 ∷ 1 ∷ 3 ∷ 1 ∷ []) [] (row_disjunction 2 3 0 1 (row_disjunction 3 1 1 3 (row_disjunction 0 2 4 2 []))) (2 ∷ 3 ∷ 3 ∷ 2 ∷ 2 ∷ 2 ∷ 2 ∷ 3 ∷ 3 ∷ 2 ∷ 1 ∷ 1 ∷ 2 ∷ 1 ∷ 1 ∷ 2 ∷ 2 ∷ 2 ∷ []) [] 1,
+      outcome 0 (expr 2 2 2 (expr 1 0 0 (expr 3 2 3 (expr 1 2 1 [])))) [] (choice 0 1 (choice 2 0 (choice 3 2 []))) [] [],
+    )
     -- no overloads
     ∷ (
       given [] [] [] [] [] (3 ∷ []) [] (row_disjunction 0 3 0 0 []) [] [] 1,

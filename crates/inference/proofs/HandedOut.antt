@@ -47,6 +47,11 @@ rows_are d (s ∷ ss) row i (suc n) e h =
     let b : rows_from row (i + 1) n ≡ ss = rows_are d ss row (i + 1) n (omega (arith, e)) (λ j l. ap row (omega arith) ∙ h (suc j) (omega (arith, l))) in
     cc
 
+pub choice_rows_long : (ks : List Choice) → length (choice_rows ks) ≡ 2 * length ks
+unfolding choice_rows
+choice_rows_long [] = refl
+choice_rows_long (k ∷ ks) = omega (arith, choice_rows_long ks)
+
 abbrev no_choice : Choice
 no_choice = record { expr = 0; position = 0 }
 

@@ -14,6 +14,7 @@ pub mod Joining
 pub mod Leaf
 pub mod Steps
 -- what a call leaves: a typing that holds together, sorts that only grow
+pub mod Rising
 pub mod HandedOut
 pub mod Together
 pub mod PlacesHave

@@ -1,13 +1,18 @@
 -- What is in a list, what holds of all in it, and lists of rows that are read one by one. By induction on the list. Assumes nothing.
 use mathlib.Core.Path.{◌≡◌, refl, sym, ap, subst, ◌∙◌}
-use mathlib.Core.List.{List, [], ◌∷◌, ◌++◌}
+use mathlib.Core.Bool.{Bool, true, false, cond, not, and-eq-true_iff}
+use mathlib.Core.List.{List, [], ◌∷◌, ◌++◌, map}
 use mathlib.Core.Logic.{◌⊎◌, inl, inr}
 use Prim.Native.Nat.{ℕ, zero, suc, ◌+◌, ◌-◌, ◌<◌, ◌≤◌}
 use native.Mathlib.Omega.{arith}
 use native.Mathlib.Nat.{add-zero}
+use lib.Dec.{eqb}
 use lib.ListN.{length, get_or, take, drop, get_or-eq_default}
+use borrow.Author.Tests.{eqb-true, eqb-false, eq-eqb, not-true}
+use Rattle.resolved_sort.proofs.Reached.{no_confusion}
 use Rattle.inference.specs.Constraints.{rows_from}
 use Rattle.inference.specs.Typing.{All, none_left, and_all, In, here, there}
+use Rattle.inference.specs.SolveChecks.{among, no_two}
 
 module _ {A : Type 0} where
   pub not_in_nothing : (x : A) → In x [] → ⊥
@@ -27,6 +32,10 @@ module _ {A : Type 0} where
   pub in_left : (x : A) (xs ys : List A) → In x xs → In x (xs ++ ys)
   in_left x _ ys (here xs) = here (xs ++ ys)
   in_left x _ ys (there y xs i) = there y (xs ++ ys) (in_left x xs ys i)
+
+  pub in_map : {B : Type 0} (f : A → B) (x : A) (xs : List A) → In x xs → In (f x) (map f xs)
+  in_map f x _ (here xs) = here (map f xs)
+  in_map f x _ (there y xs i) = there (f y) (map f xs) (in_map f x xs i)
 
   pub in_all : (P : A → Type 0) (x : A) (xs : List A) → All P xs → In x xs → P x
   in_all P x _ none_left x4 = elim x4 [ ]
@@ -122,3 +131,35 @@ module _ {A : Type 0} where
   pub rows_none_left : (row : ℕ → A) (n i : ℕ) → n ≤ i → rows_from row i (n - i) ≡ []
   unfolding rows_from
   rows_none_left row n i l = ap (rows_from row i) (let z : n - i ≡ 0 = omega (arith, l) in z)
+
+-- Numbers among others, as checks look for them.
+pub among_in : (x : ℕ) (ys : List ℕ) → In x ys → among x ys ≡ true
+unfolding among
+among_in x _ (here ys) = rw (eq-eqb x x refl)
+among_in x _ (there y ys i) = go (eqb x y) (among_in x ys i)
+  where
+    go : (b : Bool) → among x ys ≡ true → cond b true (among x ys) ≡ true
+    go true h = refl
+    go false h = h
+
+pub is_among : (x : ℕ) (ys : List ℕ) → among x ys ≡ true → In x ys
+unfolding among
+is_among x [] a = no_confusion cc
+is_among x (y ∷ ys) a = go (eqb x y) refl a (is_among x ys)
+  where
+    go : (b : Bool) → eqb x y ≡ b → cond b true (among x ys) ≡ true → (among x ys ≡ true → In x ys) → In x (y ∷ ys)
+    go true e h f = first_in x y ys (eqb-true x y e)
+    go false e h f = there y ys (f h)
+
+pub not_among : (x y : ℕ) (ys : List ℕ) → among x (y ∷ ys) ≡ false → (x ≡ y → ⊥) × (among x ys ≡ false)
+unfolding among
+not_among x y ys a = go (eqb x y) refl a
+  where
+    go : (b : Bool) → eqb x y ≡ b → cond b true (among x ys) ≡ false → (x ≡ y → ⊥) × (among x ys ≡ false)
+    go true e a = no_confusion (cc)
+    go false e a = (eqb-false x y e, a)
+
+-- "Two disjunctions .. are for one expression": not so
+pub no_two_first : (x : ℕ) (xs : List ℕ) → no_two (x ∷ xs) ≡ true → (among x xs ≡ false) × (no_two xs ≡ true)
+unfolding no_two
+no_two_first x xs h = let q = (and-eq-true_iff (not (among x xs)) (no_two xs)).0 h in (not-true (among x xs) q.0, q.1)

@@ -26,21 +26,17 @@ use Rattle.inference.specs.SolveEntry.{SolveLeft, refused, solve_entry, choices_
 use Rattle.inference.specs.Named.{Named}
 use Rattle.inference.specs.OutputsLeft.{RowsPastUntouched}
 use Rattle.inference.proofs.Members.{length_rows}
-use Rattle.inference.proofs.Invariant.{Fine, FineBest, Leaves}
-use Rattle.inference.proofs.Accepted.{passing, refused_or_searched}
-use Rattle.inference.proofs.Choices.{names_and_choices}
+use Rattle.inference.proofs.HandedOut.{choice_rows_long}
+use Rattle.inference.specs.Rising.{rising}
+use Rattle.inference.proofs.Accepted.{Accepted, passing, refused_or_searched}
+use Rattle.inference.proofs.Choices.{as_many_told, names_and_choices}
 use Rattle.inference.proofs.Statements.{as_many_as_asked}
-use Rattle.inference.proofs.Together.{W₀, B₀, P, typed_long, search_leaves}
+use Rattle.inference.proofs.Together.{W₀, P, typed_long, Held, HeldBest, HeldAtEnd, search_holds}
 
 typing_rows_long : (Q : Problem) (bs : List BaseName) (cs : List Choice) (x : ℕ) (ss : List ℕ) → length (typing_rows Q bs cs x ss) ≡ 3 * length ss
 unfolding typing_rows
 typing_rows_long Q bs cs x [] = refl
 typing_rows_long Q bs cs x (s ∷ ss) = omega (arith, typing_rows_long Q bs cs (x + 1) ss)
-
-choice_rows_long : (ks : List Choice) → length (choice_rows ks) ≡ 2 * length ks
-unfolding choice_rows
-choice_rows_long [] = refl
-choice_rows_long (k ∷ ks) = omega (arith, choice_rows_long ks)
 
 -- so many words written over others, which stand behind them as before
 record Over (n : ℕ) (xs old : List ℕ) : Type 0 where
@@ -69,10 +65,11 @@ module _ (I : Call) where
     pub measure : Over o.components L.measure I.measure
     pub choices : Over (2 * o.choices) L.choices I.choices
 
-  by_candidate : (W : Lent) (c : Candidate) → Fine (W₀ I) (B₀ I) (P I) W c → (o : Outputs) (b : Bool)
+  by_candidate : Accepted I → (W : Lent) (c : Candidate) → Held I W c → (o : Outputs) (b : Bool)
       → (judged_by I W c b).answer ≡ Ok (Typing o) → Written (judged_by I W c b) o
-  by_candidate W c f o true e = no_confusion cc
-  by_candidate W c f o false e =
+  by_candidate A W c f o true e = no_confusion cc
+  by_candidate A W c held o false e =
+      let f = held.fine in
       let q : o ≡ record { counts = counts_in W; components = length c.measure; choices = length c.choices } = cc in
       let many : length c.sorts ≡ I.rows.exprs =
       typed_long (W₀ I) (sort_in W) f.assignment (P I).exprs c.sorts f.typed ∙ length_rows (λ i. get_or I.exprs i 0) 0 I.rows.exprs in
@@ -82,27 +79,28 @@ module _ (I : Call) where
             (typing_rows_long (P I) (base_names_of I) c.choices 0 c.sorts ∙ ap (λ (n : ℕ). 3 * n) many);
         measure = over o.components c.measure I.measure (sym (ap (λ (z : Outputs). z.components) q));
         choices =
-            over (2 * o.choices) (choice_rows c.choices) I.choices
-            (choice_rows_long c.choices ∙ sym (ap (λ (z : Outputs). 2 * z.choices) q));
+            over (2 * o.choices) (choice_rows (rising (P I) c.choices)) I.choices
+            (choice_rows_long (rising (P I) c.choices)
+            ∙ (ap (λ (n : ℕ). 2 * n) (as_many_told I A c held.fits) ∙ sym (ap (λ (z : Outputs). 2 * z.choices) q)));
       }
 
-  by_best : (W : Lent) (b : Option Candidate) → FineBest (W₀ I) (B₀ I) (P I) W b → (o : Outputs) → (judged I W b).answer ≡ Ok (Typing o)
+  by_best : Accepted I → (W : Lent) (b : Option Candidate) → HeldBest I W b → (o : Outputs) → (judged I W b).answer ≡ Ok (Typing o)
       → Written (judged I W b) o
-  unfolding FineBest
-  by_best W none f o e = no_confusion cc
-  by_best W (some c) f o e = by_candidate W c f o c.duplicate e
+  unfolding HeldBest
+  by_best A W none f o e = no_confusion cc
+  by_best A W (some c) f o e = by_candidate A W c f o c.duplicate e
 
-  by_verdict : (O : Out (Unit {0})) → Leaves (W₀ I) (B₀ I) (P I) (Unit {0}) (W₀ I) O → (o : Outputs) → (verdict I O).answer ≡ Ok (Typing o)
+  by_verdict : Accepted I → (O : Out (Unit {0})) → HeldAtEnd I O → (o : Outputs) → (verdict I O).answer ≡ Ok (Typing o)
       → Written (verdict I O) o
-  unfolding Leaves
-  by_verdict (found w) l o e = by_best w.lent w.best l.best o e
-  by_verdict (missed w) l o e = by_best w.lent w.best l.best o e
-  by_verdict (ended d W) l o e = no_confusion cc
+  unfolding HeldAtEnd
+  by_verdict A (found w) l o e = by_best A w.lent w.best l o e
+  by_verdict A (missed w) l o e = by_best A w.lent w.best l o e
+  by_verdict A (ended d W) l o e = no_confusion cc
 
   written : (o : Outputs) → (solve_entry I).answer ≡ Ok (Typing o) → Written (solve_entry I) o
   written o =
       refused_or_searched I (λ L. L.answer ≡ Ok (Typing o) → Written L o) (λ c l e. no_confusion cc)
-      (λ A. by_verdict (searched (Unit {0}) nothing_met tt I) (search_leaves I A (Unit {0}) nothing_met tt) o)
+      (λ A. by_verdict A (searched (Unit {0}) nothing_met tt I) (search_holds I A (Unit {0}) nothing_met tt) o)
 
   -- a typing is of a call that no check refuses
   pub typing_passed : (o : Outputs) → (solve_entry I).answer ≡ Ok (Typing o) → first_failing (solve_checks I) ≡ Ok tt

@@ -9,7 +9,7 @@ use mathlib.Core.Logic.{◌⊎◌, inl, inr, ◌↔◌}
 use Prim.Native.Nat.{ℕ, suc, ◌+◌, ◌*◌, ◌<◌}
 use native.Mathlib.Omega.{arith}
 use lib.Dec.{eqb}
-use lib.ListN.{length, get_or, length-map}
+use lib.ListN.{length, get_or}
 use lib.Seq.{take-append_seam}
 use Rattle.resolved_sort.specs.declared.Refusal.{Refusal}
 use Rattle.std.specs.Prelude.{Ok, Err}
@@ -38,16 +38,17 @@ use Rattle.inference.specs.Constraints.{Problem}
 use Rattle.inference.specs.Measure.{Components, Ranking, smaller, equal, greater, compare}
 use Rattle.inference.specs.Search.{Choice, World, ended, says}
 use Rattle.inference.specs.Names.{run_for, overload_in, chosen_name, base_name, name_of, name_kind, name_sort}
-use Rattle.inference.specs.Typing.{Assignment, Has, In, Typed, all_typed, and_typed, Meets, HoldsTogether}
+use Rattle.inference.specs.Typing.{Assignment, Has, All, none_left, and_all, In, Typed, all_typed, and_typed, Meets, HoldsTogether}
 use Rattle.inference.specs.Typing.{NumberSort, is_pos, is_nat, is_int, is_real}
 use Rattle.inference.specs.SolveChecks.{Call, given, disjunctions, among, components, solve_checks}
 use Rattle.inference.specs.SolveEntry.{Solved, problem_of, base_names_of, lent_of, SolveLeft, room_refusal, solve_entry}
 use Rattle.inference.specs.SolveEntry.{code_solved, measure_out, choices_out, TypingOr15}
 use Rattle.inference.specs.Explained.{Explained}
+use Rattle.inference.specs.Rising.{RisingNumbers, no_numbers, then_above}
 use Rattle.inference.specs.Named.{expr_of, choice, Named}
 use Rattle.inference.specs.Leaves.{once, times, Least, met_of, code_left, ByLeaves}
 use Rattle.inference.specs.ListsLeft.{counts_told, SortsGrown, ListsKept, Ends}
-use Rattle.inference.proofs.Members.{in_all}
+use Rattle.inference.proofs.Members.{in_all, among_in, is_among}
 use Rattle.inference.proofs.Measures.{compare_self, equal_are_one}
 use Rattle.inference.proofs.Clauses.{one_sort}
 
@@ -94,14 +95,24 @@ together_says shape sortGiven left count B P sorts ks h =
       h.once,
     )
 
+-- numbers that rise, by where they stand
+later_above : (x y m : ℕ) (xs : List ℕ) → All (λ z. x < z) xs → Member y m xs → x < y
+later_above x y _ _ none_left m = elim m [ ]
+later_above x y _ _ (and_all _ xs l a) first = l
+later_above x y _ _ (and_all z xs l a) (later m) = later_above x y _ xs a m
+
+pub rising_at : (x y i m : ℕ) (xs : List ℕ) → RisingNumbers xs → Member x i xs → Member y m xs → i < m → x < y
+rising_at x y _ _ _ no_numbers a b l = elim a [ ]
+rising_at x y _ _ _ (then_above z xs q r) first first l = absurd (omega (arith, l))
+rising_at x y _ _ _ (then_above _ xs q r) first (later b) l = later_above x y _ xs q b
+rising_at x y _ _ _ (then_above _ xs q r) (later a) first l = absurd (omega (arith, l))
+rising_at x y _ _ _ (then_above _ xs q r) (later a) (later b) l = rising_at x y _ _ xs r a b (omega (arith, l))
+
 -- Names and choices
 module _ (I : Call) (L : SolveLeft) (o : Outputs) (ks : List Choice) (n : Named I L o ks) where
   -- what is told of the measure and of the choices, by the constraints
   pub as_many_as_asked : (o.components ≡ components (given I)) × (o.choices ≡ length (disjunctions (given I)))
-  as_many_as_asked = (
-    n.handed_out ∙ n.component_count,
-    n.choice_count ∙ (sym (length-map ks expr_of) ∙ ap length n.in_order),
-  )
+  as_many_as_asked = (n.handed_out ∙ n.component_count, n.choice_count ∙ n.as_many)
 
   pub measure_is_read : measure_out L o ≡ n.measure
   measure_is_read = rw (n.handed_out, n.measure_handed_out) (take-append_seam n.measure _)
@@ -109,13 +120,20 @@ module _ (I : Call) (L : SolveLeft) (o : Outputs) (ks : List Choice) (n : Named 
   pub as_many_components : length (measure_out L o) ≡ components (given I)
   as_many_components = ap length measure_is_read ∙ n.component_count
 
-  -- the i-th choice is of the i-th disjunction's expression
-  pub choices_by_disjunction : (k : Choice) (i : ℕ) → Member k i ks → Member k.expr i (disjunctions (given I))
-  choices_by_disjunction k i m = subst (Member k.expr i) n.in_order (at k i ks m)
+  -- of two choices the later one is for a higher expression
+  pub choices_rise : (j k : Choice) (i m : ℕ) → Member j i ks → Member k m ks → i < m → j.expr < k.expr
+  choices_rise j k i m a b l = rising_at j.expr k.expr i m (map expr_of ks) n.rises (at j i ks a) (at k m ks b) l
     where
       at : (k : Choice) (i : ℕ) (ks : List Choice) → Member k i ks → Member k.expr i (map expr_of ks)
       at k _ _ first = first
       at k _ (j ∷ ks) (later m) = later (at k _ ks m)
+
+  -- and the expressions that have a choice are those of the disjunctions
+  pub chosen_where_asked : (x : ℕ) → In x (map expr_of ks) ↔ In x (disjunctions (given I))
+  chosen_where_asked x = (
+    λ i. is_among x (disjunctions (given I)) (sym (n.for_disjunctions x) ∙ among_in x (map expr_of ks) i),
+    λ i. is_among x (map expr_of ks) (n.for_disjunctions x ∙ among_in x (disjunctions (given I)) i),
+  )
 
   -- a disjunction has one choice, of its own run, and its expression has the name of that overload
   pub one_choice_of_the_run : (x : ExprId) (p : InferSortId) (run : Run) → In (Disjunction x p run) (given I)

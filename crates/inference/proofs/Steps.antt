@@ -14,7 +14,7 @@ use Rattle.inference.specs.declared.Constraint.TheVariants.{Sub, Lit, Disjunctio
 use Rattle.inference.specs.Constraints.{Problem}
 use Rattle.inference.specs.Measure.{Components}
 use Rattle.inference.specs.Search.{Path, Choice, Going, sort_in, step, solve, leaf, dominated_by, unless_dominated, missed}
-use Rattle.inference.specs.Typing.{Assignment, All, and_all, here, Meets, meets_sub, meets_lit, meets_disjunction, meets_comprehension, meets_join}
+use Rattle.inference.specs.Typing.{Assignment, All, and_all, In, here, Meets, meets_sub, meets_lit, meets_disjunction, meets_comprehension, meets_join}
 use Rattle.inference.specs.Components.{Costs, sub_costs, lit_costs, disjunction_costs, comprehension_costs}
 use Rattle.inference.specs.Components.{agreed_costs, sequence_costs, nothing_costs, and_costs}
 use Rattle.inference.proofs.Members.{in_left, in_right}
@@ -26,26 +26,28 @@ use Rattle.inference.proofs.Alternatives.{disjunction_goes, comprehension_goes, 
 use Rattle.inference.specs.Inner.Listed.{ListedConstraint, sub_listed, lit_listed, disjunction_listed, comprehension_listed, join_listed}
 
 module _ (W₀ : Lent) (B₀ : Binds) (P : Problem) where
-  -- what is met stays met when there are more choices
-  more_meets : (ch xs : List Choice) (ρ : Assignment) (c : Constraint) → Meets (graph W₀) (sort_in W₀) P ch ρ c → Meets (graph W₀) (sort_in W₀) P (ch ++ xs) ρ c
-  more_meets ch xs ρ _ (meets_sub l r t h i) = meets_sub l r t h i
-  more_meets ch xs ρ _ (meets_lit p kind s h a) = meets_lit p kind s h a
-  more_meets ch xs ρ _ (meets_disjunction x p run i t m l h g) = meets_disjunction x p run i t (in_left _ ch xs m) l h g
-  more_meets ch xs ρ _ (meets_comprehension b n e s t h g r) = meets_comprehension b n e s t h g r
-  more_meets ch xs ρ _ (meets_join run t u h a) = meets_join run t u h a
+  -- what is met stays met with choices that have all of these among them
+  more_meets : (ch ds : List Choice) → ((k : Choice) → In k ch → In k ds) → (ρ : Assignment) (c : Constraint)
+      → Meets (graph W₀) (sort_in W₀) P ch ρ c → Meets (graph W₀) (sort_in W₀) P ds ρ c
+  more_meets ch ds m ρ _ (meets_sub l r t h i) = meets_sub l r t h i
+  more_meets ch ds m ρ _ (meets_lit p kind s h a) = meets_lit p kind s h a
+  more_meets ch ds m ρ _ (meets_disjunction x p run i t j l h g) = meets_disjunction x p run i t (m _ j) l h g
+  more_meets ch ds m ρ _ (meets_comprehension b n e s t h g r) = meets_comprehension b n e s t h g r
+  more_meets ch ds m ρ _ (meets_join run t u h a) = meets_join run t u h a
 
-  more_costs : (ch xs : List Choice) (ρ : Assignment) (c : Constraint) (ns : Components)
-      → Costs (graph W₀) (sort_in W₀) P ch ρ c ns → Costs (graph W₀) (sort_in W₀) P (ch ++ xs) ρ c ns
-  more_costs ch xs ρ _ _ (sub_costs l r s t n h g w) = sub_costs l r s t n h g w
-  more_costs ch xs ρ _ _ (lit_costs p kind s g h e) = lit_costs p kind s g h e
-  more_costs ch xs ρ _ _ (disjunction_costs x p run m) = disjunction_costs x p run (more_meets ch xs ρ (Disjunction x p run) m)
-  more_costs ch xs ρ _ _ (comprehension_costs b n e m) = comprehension_costs b n e (more_meets ch xs ρ (Comprehension b n e) m)
-  more_costs ch xs ρ _ _ (agreed_costs run t s u us ns h g j) = agreed_costs run t s u us ns h g j
-  more_costs ch xs ρ _ _ (sequence_costs run t u ns h q) = sequence_costs run t u ns h q
+  more_costs : (ch ds : List Choice) → ((k : Choice) → In k ch → In k ds) → (ρ : Assignment) (c : Constraint) (ns : Components)
+      → Costs (graph W₀) (sort_in W₀) P ch ρ c ns → Costs (graph W₀) (sort_in W₀) P ds ρ c ns
+  more_costs ch ds m ρ _ _ (sub_costs l r s t n h g w) = sub_costs l r s t n h g w
+  more_costs ch ds m ρ _ _ (lit_costs p kind s g h e) = lit_costs p kind s g h e
+  more_costs ch ds m ρ _ _ (disjunction_costs x p run q) = disjunction_costs x p run (more_meets ch ds m ρ (Disjunction x p run) q)
+  more_costs ch ds m ρ _ _ (comprehension_costs b n e q) = comprehension_costs b n e (more_meets ch ds m ρ (Comprehension b n e) q)
+  more_costs ch ds m ρ _ _ (agreed_costs run t s u us ns h g j) = agreed_costs run t s u us ns h g j
+  more_costs ch ds m ρ _ _ (sequence_costs run t u ns h q) = sequence_costs run t u ns h q
 
-  more_choices : (ch xs : List Choice) (ρ : Assignment) (cs : List Constraint) (ms : Components) → Cost W₀ B₀ P ch ρ cs ms → Cost W₀ B₀ P (ch ++ xs) ρ cs ms
-  more_choices ch xs ρ _ _ nothing_costs = nothing_costs
-  more_choices ch xs ρ _ _ (and_costs c cs ns ms x y) = and_costs c cs ns ms (more_costs ch xs ρ c ns x) (more_choices ch xs ρ cs ms y)
+  pub more_choices : (ch ds : List Choice) → ((k : Choice) → In k ch → In k ds) → (ρ : Assignment) (cs : List Constraint) (ms : Components)
+      → Cost W₀ B₀ P ch ρ cs ms → Cost W₀ B₀ P ds ρ cs ms
+  more_choices ch ds m ρ _ _ nothing_costs = nothing_costs
+  more_choices ch ds m ρ _ _ (and_costs c cs ns ms x y) = and_costs c cs ns ms (more_costs ch ds m ρ c ns x) (more_choices ch ds m ρ cs ms y)
 
   -- one more constraint passed
   and_last : (ch : List Choice) (ρ : Assignment) (cs : List Constraint) (ms : Components) (c : Constraint)
@@ -80,7 +82,7 @@ module _ (W₀ : Lent) (B₀ : Binds) (P : Problem) where
         disjunction_goes W₀ B₀ P c₀ six Met meet x p run y o (Passed done) (Passed (done ++ (Disjunction x p run ∷ [])))
         (λ ch ρ ms i t q l h j.
         and_free (ch ++ (record { expr = x.0; position = i } ∷ [])) ρ done ms (Disjunction x p run)
-        (more_choices ch (record { expr = x.0; position = i } ∷ []) ρ done ms q)
+        (more_choices ch (ch ++ (record { expr = x.0; position = i } ∷ [])) (λ k. in_left k ch _) ρ done ms q)
         (disjunction_costs x p run (meets_disjunction x p run i t (in_right _ ch _ (here [])) l h j))) k g
     step_goes done _ (comprehension_listed body node element x y l) k g =
         comprehension_goes W₀ B₀ P c₀ six Met meet body.0 node.0 element.0 x y l (Passed done)

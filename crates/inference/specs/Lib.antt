@@ -5,6 +5,7 @@ pub mod Measure
 pub mod Search
 pub mod Names
 pub mod SolveChecks
+pub mod Rising
 pub mod SolveEntry
 pub mod Situations
 pub mod Typing

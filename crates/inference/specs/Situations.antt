@@ -31,6 +31,7 @@ use Rattle.inference.specs.Search as Search
 use Rattle.inference.specs.Names as Names
 use Rattle.inference.specs.SolveChecks.{Call, scratch_words, typing_words, choice_words}
 use Rattle.inference.specs.SolveChecks as SolveChecks
+use Rattle.inference.specs.Rising as Rising
 use Rattle.inference.specs.SolveEntry.{Solved, SolveLeft, solve_entry, code_solved}
 use Rattle.inference.specs.SolveEntry as SolveEntry
 
@@ -115,7 +116,8 @@ unfolding Checks.all_below Checks.within_lent Checks.fixed_six Checks.parts_belo
     Constraints.lit_kind Constraints.constraint Constraints.rows_from Search.resolve_in Search.join_in Search.resolve_all
     Search.join_all Search.agreed Search.join_of Search.lit_component Search.unifying Search.first_found Search.widening
     Search.literal Search.every_reading Search.every_overload Search.sequence Search.joining Search.step Search.leaf
-    Search.solve SolveEntry.typing_rows SolveEntry.choice_rows SolveEntry.solve_entry SolveEntry.room_refusal SolveEntry.code_solved
+    Search.solve SolveEntry.typing_rows Rising.choices_for Rising.rising_from SolveEntry.choice_rows
+    SolveEntry.solve_entry SolveEntry.room_refusal SolveEntry.code_solved
     Measure.compare Measure.worse SolveChecks.all_within_lent SolveChecks.rows_within_lent SolveChecks.outputs_long
     SolveChecks.target_fine SolveChecks.exprs_fine SolveChecks.names_fine SolveChecks.overload_fine
     SolveChecks.constraints_fine SolveChecks.disjunctions SolveChecks.among SolveChecks.no_two SolveChecks.joins_fine

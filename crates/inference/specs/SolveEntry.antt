@@ -20,6 +20,7 @@ use Rattle.inference.specs.Measure.{Components}
 use Rattle.inference.specs.Search.{Choice, Path, Candidate, Out, found, missed, ended, solve}
 use Rattle.inference.specs.Names.{name_of, name_kind, name_sort}
 use Rattle.inference.specs.SolveChecks.{Call, typing_words, choice_words, given, solve_checks}
+use Rattle.inference.specs.Rising.{rising}
 
 -- the words of a list in use, one by one
 abbrev pub words_in_use : List ℕ → ℕ → List ℕ
@@ -105,7 +106,7 @@ typing_rows P bs cs x [] = []
 typing_rows P bs cs x (s ∷ ss) =
     s ∷ name_kind (name_of P bs cs x) ∷ name_sort (name_of P bs cs x) ∷ typing_rows P bs cs (x + 1) ss
 
--- the rows of choices: expression and position, in the order of the constraints
+-- the rows of choices: expression and position
 unfoldable pub choice_rows : List Choice → List ℕ
 choice_rows [] = []
 choice_rows (k ∷ ks) = k.expr ∷ k.position ∷ choice_rows ks
@@ -117,13 +118,15 @@ written_over xs old = xs ++ drop (length xs) old
 abbrev pub counts_in : Lent → Counts
 counts_in W = record { sorts = W.lengths.sorts; entries = W.lengths.entries }
 
+-- C-15: "rising expression number". There are as many rows as choices (`length_rising`, by check 9).
 abbrev pub typed : Call → Lent → Candidate → SolveLeft
 typed I W c =
     left_with I
     (Ok (Typing (record { counts = counts_in W; components = length c.measure; choices = length c.choices })))
     W.sorts
     (written_over (typing_rows (problem_of I) (base_names_of I) c.choices 0 c.sorts) I.typing)
-    (written_over c.measure I.measure) (written_over (choice_rows c.choices) I.choices)
+    (written_over c.measure I.measure)
+    (written_over (choice_rows (rising (problem_of I) c.choices)) I.choices)
 
 abbrev pub judged_by : Call → Lent → Candidate → Bool → SolveLeft
 judged_by I W c true = left_with I (Ok (Ambiguous (counts_in W))) W.sorts I.typing I.measure I.choices

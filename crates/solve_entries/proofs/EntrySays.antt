@@ -23,15 +23,16 @@ use Rattle.inference.specs.declared.Verdict.TheVariants.{NoTyping, Ambiguous, Ty
 use Rattle.inference.specs.Measure.{Components}
 use Rattle.inference.specs.Search.{Candidate, Out, found, missed, ended}
 use Rattle.inference.specs.SolveChecks.{Call, solve_checks}
-use Rattle.inference.specs.SolveEntry.{Solved, SolveLeft, searched, refused, counts_in, judged, judged_by, verdict, nothing_met, solve_entry}
+use Rattle.inference.specs.SolveEntry.{Solved, problem_of, SolveLeft, searched, refused, counts_in, judged, judged_by, verdict}
+use Rattle.inference.specs.SolveEntry.{nothing_met, solve_entry}
 use Rattle.inference.specs.SolveEntry.{code_solved, sorts_out, measure_out, choices_out, TypingOr15}
 use Rattle.inference.specs.Leaves.{times, Least, measure_met, history, leaves_met, HandsOut, ByLeaves}
 use Rattle.inference.specs.ListsLeft.{counts_told}
 use Rattle.inference.proofs.Forgets.{history_has_the_verdict}
-use Rattle.inference.proofs.Invariant.{Fine, FineBest, Leaves as SearchLeaves}
-use Rattle.inference.proofs.Accepted.{accepted, passed_is_searched}
-use Rattle.inference.proofs.Together.{W₀, B₀, P, search_leaves, hands_out_candidate, every_typing_is_explained, typing_holds_together}
-use Rattle.inference.proofs.Choices.{names_and_choices}
+use Rattle.inference.proofs.Accepted.{Accepted, accepted, passed_is_searched}
+use Rattle.inference.specs.Rising.{rising}
+use Rattle.inference.proofs.Together.{Held, HeldBest, HeldAtEnd, search_holds, hands_out_candidate, every_typing_is_explained, typing_holds_together}
+use Rattle.inference.proofs.Choices.{told_is_read, names_and_choices}
 use Rattle.inference.proofs.LeavesMet.{verdict_by_leaves}
 use Rattle.inference.proofs.ListsLeft.{sorts_only_grow}
 use Rattle.inference.proofs.RowsPast.{rows_past_untouched}
@@ -110,25 +111,26 @@ module _ (I : Call) where
   verdict_made (ended c W) k e = no_confusion cc
 
   abbrev Incumbent : SolveLeft → Outputs → Option Candidate → Type 0
-  Incumbent M o b = (c : Candidate) × (b ≡ some c) × (sorts_out I M ≡ c.sorts) × (choices_out M o ≡ c.choices)
+  Incumbent M o b = (c : Candidate) × (b ≡ some c) × (sorts_out I M ≡ c.sorts) × (choices_out M o ≡ rising (problem_of I) c.choices)
 
-  tie_incumbent : (W : Lent) (c : Candidate) → Fine (W₀ I) (B₀ I) (P I) W c → (o : Outputs) (b : Bool)
-      → (judged_by I W c b).answer ≡ Ok (Typing o) → Incumbent (judged_by I W c b) o (some c)
-  tie_incumbent W c f o true e = no_confusion cc
-  tie_incumbent W c f o false e = let h = hands_out_candidate I W c f o e in (c, refl, h.0, h.2)
+  module _ (A : Accepted I) where
+    tie_incumbent : (W : Lent) (c : Candidate) → Held I W c → (o : Outputs) (b : Bool)
+        → (judged_by I W c b).answer ≡ Ok (Typing o) → Incumbent (judged_by I W c b) o (some c)
+    tie_incumbent W c f o true e = no_confusion cc
+    tie_incumbent W c f o false e = (c, refl, (hands_out_candidate I W c f.fine o e).0, told_is_read I A c f.fits W o e)
 
-  best_incumbent : (W : Lent) (b : Option Candidate) → FineBest (W₀ I) (B₀ I) (P I) W b → (o : Outputs)
-      → (judged I W b).answer ≡ Ok (Typing o) → Incumbent (judged I W b) o b
-  unfolding FineBest
-  best_incumbent W none f o e = no_confusion cc
-  best_incumbent W (some c) f o e = tie_incumbent W c f o c.duplicate e
+    best_incumbent : (W : Lent) (b : Option Candidate) → HeldBest I W b → (o : Outputs)
+        → (judged I W b).answer ≡ Ok (Typing o) → Incumbent (judged I W b) o b
+    unfolding HeldBest
+    best_incumbent W none f o e = no_confusion cc
+    best_incumbent W (some c) f o e = tie_incumbent W c f o c.duplicate e
 
-  verdict_incumbent : (H : Out (List Components)) → SearchLeaves (W₀ I) (B₀ I) (P I) (List Components) (W₀ I) H → (o : Outputs)
-      → (verdict I H).answer ≡ Ok (Typing o) → Incumbent (verdict I H) o (best_at_end H)
-  unfolding SearchLeaves
-  verdict_incumbent (found w) l o e = best_incumbent w.lent w.best l.best o e
-  verdict_incumbent (missed w) l o e = best_incumbent w.lent w.best l.best o e
-  verdict_incumbent (ended c W) l o e = no_confusion cc
+    verdict_incumbent : (H : Out (List Components)) → HeldAtEnd I H → (o : Outputs)
+        → (verdict I H).answer ≡ Ok (Typing o) → Incumbent (verdict I H) o (best_at_end H)
+    unfolding HeldAtEnd
+    verdict_incumbent (found w) l o e = best_incumbent w.lent w.best l o e
+    verdict_incumbent (missed w) l o e = best_incumbent w.lent w.best l o e
+    verdict_incumbent (ended c W) l o e = no_confusion cc
 
   abbrev L : SolveLeft
   L = solve_entry I
@@ -172,7 +174,7 @@ module _ (I : Call) where
     of_incumbent : (o : Outputs) → L.answer ≡ Ok (Typing o) → OfIncumbent I L o
     of_incumbent o e =
         let x = subst (λ M. Incumbent M o (best_at_end (history I))) (sym by_history)
-        (verdict_incumbent (history I) (search_leaves I (accepted I f) (List Components) measure_met []) o (answered (Ok (Typing o)) e)) in
+        (verdict_incumbent (accepted I f) (history I) (search_holds I (accepted I f) (List Components) measure_met []) o (answered (Ok (Typing o)) e)) in
         record { candidate = x.0; is = x.1; sorts = x.2; choices = x.3 }
 
     -- the measure handed out is the least

@@ -1,7 +1,7 @@
 -- The statement about the entry (`EntrySays`) holds of one outcome, the defined one, and of no other: two of which it holds have one answer and leave the
 -- same words. Their codes are one (`one_verdict`), so they are of one kind; sorts and counts are those of the search's end, nodes, bindings and scratch
--- are said, and so are outputs that are as given. Of a typing the rows are determined word by word: sorts and choices are the incumbent's, names
--- are by choices, the measure is the least, and what stands behind them is as it was lent. Assumes nothing.
+-- are said, and so are outputs that are as given. Of a typing the rows are determined word by word: sorts are the incumbent's, and so are
+-- choices, by rising expression number; names are by choices, the measure is the least, and what stands behind them is as it was lent. Assumes nothing.
 use mathlib.Core.Path.{◌≡◌, refl, sym, ap, subst, ◌∙◌}
 use mathlib.Core.List.{List}
 use mathlib.Core.Logic.{◌⊎◌, ◌↔◌, inl, inr}
@@ -17,6 +17,7 @@ use Rattle.inference.specs.declared.Outputs.{Outputs}
 use Rattle.inference.specs.declared.Verdict.TheVariants.{NoTyping, Ambiguous, Typing}
 use Rattle.inference.specs.Search.{Choice}
 use Rattle.inference.specs.SolveChecks.{Call}
+use Rattle.inference.specs.Rising.{rising}
 use Rattle.inference.specs.Names.{name_of, name_kind, name_sort}
 use Rattle.inference.specs.SolveEntry.{Solved, SolveLeft, problem_of, base_names_of, refused, written_over, solve_entry, code_solved}
 use Rattle.inference.specs.SolveEntry.{sorts_out, measure_out, choice_at, choices_out}
@@ -90,7 +91,7 @@ module _ (I : Call) (L M : SolveLeft) where
     one_sorts = s.incumbent.sorts ∙ (ap (λ c. c.sorts) one_candidate ∙ sym t.incumbent.sorts)
 
     one_choices : choices_out L o ≡ choices_out M p
-    one_choices = s.incumbent.choices ∙ (ap (λ c. c.choices) one_candidate ∙ sym t.incumbent.choices)
+    one_choices = s.incumbent.choices ∙ (ap (λ c. rising (problem_of I) c.choices) one_candidate ∙ sym t.incumbent.choices)
 
     -- the word of a row that has a sort, a kind of name and a sort of name
     sort_word : (x : ℕ) → x < I.rows.exprs → get_or L.typing (3 * x) 0 ≡ get_or M.typing (3 * x) 0

@@ -15,6 +15,7 @@ use Rattle.inference.specs.declared.Verdict.TheVariants.{NoTyping, Ambiguous, Ty
 use Rattle.inference.specs.Measure.{Components}
 use Rattle.inference.specs.Search.{Candidate, Out, found, missed, ended, sort_in}
 use Rattle.inference.specs.SolveChecks.{Call, solve_checks}
+use Rattle.inference.specs.Rising.{rising}
 use Rattle.inference.specs.SolveEntry.{Solved, SolveLeft, problem_of, lent_of, refused, room_refusal}
 use Rattle.inference.specs.SolveEntry.{nodes_given_back, cleared, counts_in, code_solved, sorts_out, measure_out}
 use Rattle.inference.specs.SolveEntry.{choices_out}
@@ -103,12 +104,12 @@ module _ (I : Call) (L : SolveLeft) where
     pub constrained : Constrained
     pub outputs : OutputsAsGiven
 
-  -- the sorts and choices handed out are the incumbent's
+  -- the sorts handed out are the incumbent's, and so are the choices, by rising expression number
   pub record OfIncumbent (o : Outputs) : Type 0 where
     pub candidate : Candidate
     pub is : best_at_end (history I) ≡ some candidate
     pub sorts : sorts_out I L ≡ candidate.sorts
-    pub choices : choices_out L o ≡ candidate.choices
+    pub choices : choices_out L o ≡ rising (problem_of I) candidate.choices
 
   -- 0: one assignment under which the whole list holds together, with the sorts and choices handed out, which are the
   -- incumbent's; the measure handed out is made of the constraints' components, and is the least that was met, once;

@@ -2,13 +2,13 @@
 -- ceilings. By the first failing check and by what the search leaves. So the packed answer has document 01's number
 -- in its low byte and tells all answers apart: by the
 -- cases of two answers. Assumes nothing.
-use mathlib.Core.Path.{◌≡◌, refl, sym, ap, subst, ◌∙◌}
+use mathlib.Core.Path.{◌≡◌, refl, sym, ap, subst}
 use mathlib.Core.Bool.{Bool, true, false}
 use mathlib.Core.Logic.{◌⊎◌, inl, inr}
 use mathlib.Core.Option.{Option, none, some}
 use Prim.Native.Nat.{ℕ, ◌%◌}
 use native.Mathlib.Omega.{arith}
-use lib.ListN.{length, length-map, get_or}
+use lib.ListN.{get_or}
 use Rattle.resolved_sort.specs.declared.Refusal.{Refusal}
 use Rattle.std.specs.Prelude.{Ok, Err}
 use Rattle.resolved_sort.specs.declared.Counts.{Counts}
@@ -21,13 +21,12 @@ use Rattle.inference.specs.declared.Verdict.TheVariants.{NoTyping, Ambiguous, Ty
 use Rattle.inference.specs.Search.{Candidate, World, Out, found, missed, ended}
 use Rattle.inference.specs.SolveChecks.{Call, given, solve_checks}
 use Rattle.inference.specs.SolveEntry.{Solved, problem_of, start_path, lent_of, searched, SolveLeft, judged, judged_by}
-use Rattle.inference.specs.SolveEntry.{room_refusal, verdict, nothing_met, solve_entry, code_solved, choices_out}
+use Rattle.inference.specs.SolveEntry.{room_refusal, verdict, nothing_met, solve_entry, code_solved}
 use Rattle.inference.proofs.Accepted.{passed_is_searched}
 use Rattle.inference.specs.ListsLeft.{counts_told}
 use Rattle.inference.proofs.ListsLeft.{sorts_only_grow}
 use Rattle.inference.proofs.Branches.{Goes, Ends}
 use Rattle.inference.proofs.Choices.{Fitting, search_fits, names_and_choices}
-use Rattle.inference.specs.Named.{expr_of}
 use Rattle.entry_answers.specs.Packing.{FitFields, FitsWidths}
 use Rattle.entry_answers.proofs.Packing.{codes_told, values_told, code_is_low_byte as low_byte}
 use Rattle.entry_answers.proofs.Refusals.{codes_tell}
@@ -121,12 +120,7 @@ module _ (I : Call) where
         let f = rows_fit I x in (
           within o.counts (ap counts_told e),
           omega (arith, n.handed_out, n.component_count, f.components),
-          omega (
-            arith,
-            n.choice_count,
-            sym (length-map (choices_out (solve_entry I) o) expr_of) ∙ ap length n.in_order,
-            f.disjunctions,
-          ),
+          omega (arith, n.choice_count, n.as_many, f.disjunctions),
         )
 
     passed_told : SolvedWithin (solve_entry I).answer

@@ -2,8 +2,8 @@
 -- the answer by whether there is an incumbent; and by the answer of the search. Assumes nothing.
 use mathlib.Core.Path.{◌≡◌, refl, sym, ap, ◌∙◌}
 use mathlib.Core.Bool.{Bool, true, false}
-use mathlib.Core.List.{List, [], ◌∷◌}
-use Prim.Native.Nat.{ℕ, suc}
+use mathlib.Core.List.{List}
+use Prim.Native.Nat.{ℕ}
 use native.Mathlib.Omega.{arith}
 use lib.ListN.{length}
 use Rattle.std.specs.Prelude.{Some, None, Result, Ok, Err}
@@ -15,20 +15,21 @@ use Rattle.unification.specs.declared.Full.TheVariants.{Sorts, Nodes}
 use Rattle.unification.specs.declared.Lengths.{Lengths}
 use Rattle.unification.specs.Full.{refusal_of}
 use Rattle.inference.specs.declared.Verdict.TheVariants.{NoTyping, Ambiguous, Typing}
-use Rattle.inference.specs.Constraints.{constraint_at, BaseName}
+use Rattle.inference.specs.Constraints.{BaseName}
 use Rattle.inference.specs.SolveChecks.{disjunctions, components}
+use Rattle.inference.specs.Rising.{rising}
 use Rattle.inference.specs.SolveEntry.{typing_rows, choice_rows, written_over, room_refusal}
-use Rattle.inference.proofs.Members.{rows_all_left}
 use Rattle.search_state.specs.declared.Sizes.{Sizes}
 use Rattle.search_state.specs.declared.Incumbent.{Incumbent}
 use Rattle.search_state.specs.declared.Search.{Search}
 use Rattle.search_state.specs.Inner.Leaves.{code_of}
-use Rattle.search_state.specs.Inner.Memory.{problem_in, chosen_exprs, choices_of, best_sorts_at, best_measure_at, best_choices_at, candidate_of, best_of}
+use Rattle.search_state.specs.Inner.Memory.{problem_in, choices_kept, best_sorts_at, best_measure_at, candidate_of, best_of}
 use Rattle.words.specs.Words.{part}
 use Rattle.words.proofs.Parts.{length_part}
 use Rattle.solve_checks.specs.declared.Problem.{Problem}
 use Rattle.solve_checks.specs.Inner.Calls.{call_for, constraint_rows}
 use Rattle.solve_outputs.specs.Inner.Begin.{sizes_of}
+use Rattle.solve_outputs.proofs.Choosing.{choices_as_counted}
 use Rattle.solve_outputs.specs.declared.Handout.{Handout}
 use Rattle.solve_outputs.specs.Inner.Finish.{Answered, answered, settled, handed_out, Handable}
 use Rattle.solve_outputs.specs.Inner.Handing.{counts_then, told_in, handing, judging, settling}
@@ -57,34 +58,18 @@ sizes_counted p n d a b =
       default = p.given.default;
     }
 
--- a choice for each expression
-length_choices : (xs is : List ℕ) → length is ≡ length xs → length (choices_of xs is) ≡ length xs
-unfolding choices_of
-length_choices [] is e = refl
-length_choices (x ∷ xs) [] e = absurd (omega (arith, e))
-length_choices (x ∷ xs) (i ∷ is) e = ap suc (length_choices xs is (omega (arith, e)))
-
 -- the incumbent of the scratch, and the outputs
 module _ (sc ls : List ℕ) (names : List BaseName) (z : Sizes) (ts ms hs : List ℕ) (h : Handable sc ls z ts ms hs) where
   many_components : z.components ≡ length (part best_measure_at z.components sc)
   many_components = sym (length_part best_measure_at z.components sc (omega (arith, h.used, h.sized.few_components)))
 
-  many_exprs : length (chosen_exprs ls z) ≡ z.disjunctions
-  unfolding chosen_exprs problem_in
-  many_exprs = ap (λ cs. length (disjunctions cs)) (rows_all_left (constraint_at ls) z.constraints) ∙ h.sized.disjunctions
-
-  many_choices : z.disjunctions ≡ length (choices_of (chosen_exprs ls z) (part best_choices_at z.disjunctions sc))
-  many_choices =
-      sym
-      (length_choices (chosen_exprs ls z) (part best_choices_at z.disjunctions sc)
-      (length_part best_choices_at z.disjunctions sc (omega (arith, h.used, h.sized.few_disjunctions)) ∙ sym many_exprs)
-      ∙ many_exprs)
+  many_choices : z.disjunctions ≡ length (choices_kept ls z sc)
+  many_choices = sym (choices_as_counted sc ls z h.sized h.used)
 
   pub hands_out : (k c : Counts) → k ≡ c → (ts' ms' hs' : List ℕ)
-      → ts' ≡ written_over (typing_rows (problem_in ls z) names (choices_of (chosen_exprs ls z) (part best_choices_at
-      z.disjunctions sc)) 0 (part best_sorts_at z.exprs sc)) ts
+      → ts' ≡ written_over (typing_rows (problem_in ls z) names (choices_kept ls z sc) 0 (part best_sorts_at z.exprs sc)) ts
       → ms' ≡ written_over (part best_measure_at z.components sc) ms
-      → hs' ≡ written_over (choice_rows (choices_of (chosen_exprs ls z) (part best_choices_at z.disjunctions sc))) hs
+      → hs' ≡ written_over (choice_rows (rising (problem_in ls z) (choices_kept ls z sc))) hs
       → answered (Ok (Typing (record { counts = k; components = z.components; choices = z.disjunctions }))) ts' ms' hs' ≡
       handed_out (problem_in ls z) names ts ms hs c (candidate_of ls z sc false)
   unfolding handed_out candidate_of

@@ -19,7 +19,7 @@ use Rattle.unification.proofs.Passed.{length_binds}
 use Rattle.inference.specs.declared.Constraint.{Constraint}
 use Rattle.inference.specs.declared.Constraint.TheVariants.{Sub, Lit, Disjunction, Comprehension, Join}
 use Rattle.inference.specs.Constraints.{max_components, constraint_at, Problem}
-use Rattle.inference.specs.SolveChecks.{Call, scratch_words, given, disjunctions, joins_fine, components, outputs_long, long_enough, solve_checks}
+use Rattle.inference.specs.SolveChecks.{Call, scratch_words, given, disjunctions, no_two, joins_fine, components, outputs_long, long_enough, solve_checks}
 use Rattle.inference.specs.SolveEntry.{problem_of, lent_of}
 use Rattle.inference.proofs.Members.{length_rows, rows_all_left}
 use Rattle.inference.specs.Inner.RowsLent.{RowsLent}
@@ -174,7 +174,7 @@ module _ (I : Call) (x : first_failing (solve_checks I) ≡ Ok tt) where
         }
 
     pub handable : (sc : List ℕ) → length sc ≡ length I.scratch → Handable sc ls (sizes_of I) I.typing I.measure I.choices
-    unfolding sizes_of
+    unfolding sizes_of chosen_exprs
     handable sc l =
         record {
           sized = sized;
@@ -182,6 +182,7 @@ module _ (I : Call) (x : first_failing (solve_checks I) ≡ Ok tt) where
           typing = passed_outputs.typing;
           measure = passed_outputs.measure;
           choices = passed_outputs.choices;
+          one_each = ap (λ cs. no_two (disjunctions cs)) rest_is_all ∙ passed_accepted.one_disjunction_each;
         }
 
 pub packed_problem : (I : Call) → problem_from I.exprs I.constraints I.overloads I.sources (sizes_of I) ≡ problem_of I

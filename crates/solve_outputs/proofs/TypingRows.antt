@@ -23,7 +23,7 @@ use Rattle.inference.specs.SolveChecks.{disjunctions}
 use Rattle.inference.specs.SolveEntry.{typing_rows, written_over}
 use Rattle.inference.proofs.Members.{rows_all_left}
 use Rattle.search_state.specs.declared.Sizes.{Sizes}
-use Rattle.search_state.specs.Inner.Memory.{overloads_at, problem_in, rest_from, chosen_exprs, choices_of, best_sorts_at, best_choices_at, scratch_used}
+use Rattle.search_state.specs.Inner.Memory.{overloads_at, problem_in, rest_from, chosen_exprs, choices_kept, choices_of, best_sorts_at, best_choices_at, scratch_used}
 use Rattle.words.specs.Words.{part}
 use Rattle.search_state.specs.Inner.Searching.{Sized}
 use Rattle.words.proofs.Parts.{length_part, part_first}
@@ -193,8 +193,7 @@ typing_written P bs sc old ss n d fits all e room =
 pub typing_handed_out : (sc old ls : List ℕ) (bs : List BaseName) (z : Sizes) → Sized (problem_in ls z) z → 3 * z.exprs ≤ length old → scratch_used ≤ length sc
     → (us vs ws : List ℕ) → us ≡ sets old 0 (named_rows no_name 0 (part best_sorts_at z.exprs sc)) → vs ≡ base_named z.exprs bs us
     → ws ≡ chosen_named z.exprs (rows_from (overload_at (drop overloads_at ls)) 0 z.overloads) sc (rest_from ls z 0) 0 vs
-    → ws ≡ written_over (typing_rows (problem_in ls z) bs (choices_of (chosen_exprs ls z) (part best_choices_at
-    z.disjunctions sc)) 0 (part best_sorts_at z.exprs sc)) old
+    → ws ≡ written_over (typing_rows (problem_in ls z) bs (choices_kept ls z sc) 0 (part best_sorts_at z.exprs sc)) old
 unfolding problem_in chosen_exprs
 typing_handed_out sc old ls bs z s room used us vs ws a b c =
     let P = problem_in ls z in

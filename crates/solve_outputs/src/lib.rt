@@ -2,22 +2,23 @@
 // scratch; what it clears, answers and leaves.
 #![tactic(auto)]
 
-ghost use Rattle.std.specs.Prelude.{◌≡◌, [], ◌+◌, ◌*◌, ◌≤◌, length, drop, false, Ok};
+ghost use Rattle.std.specs.Prelude.{◌≡◌, [], ◌+◌, ◌*◌, ◌≤◌, length, drop, true, false, Ok};
 ghost use Rattle.std.proofs.Math.Option.{some};
 ghost use Rattle.std.proofs.lemmas.List.Edits.{sets};
 ghost use Rattle.unification.specs.Nodes.{max_nodes, max_node_entries, full_nodes};
 ghost use Rattle.inference.specs.Constraints.{max_constraints, max_components, name_words, overload_at, base_name_at};
 ghost use Rattle.inference.specs.Constraints.{rows_from};
 ghost use Rattle.inference.specs.Names.{overload_in, name_kind, name_sort};
-ghost use Rattle.inference.specs.SolveChecks.{typing_words, choice_words, disjunction_for};
+ghost use Rattle.inference.specs.SolveChecks.{typing_words, choice_words, disjunction_for, no_two};
+ghost use Rattle.inference.specs.Rising.{rising};
 ghost use Rattle.inference.specs.SolveEntry.{nodes_given_back, typing_rows, choice_rows, written_over};
-ghost use Rattle.search_state.specs.Inner.Memory.{overloads_at, problem_in, rest_from, chosen_exprs, choices_of};
-ghost use Rattle.search_state.specs.Inner.Memory.{best_sorts_at, best_measure_at, best_choices_at};
-ghost use Rattle.search_state.specs.Inner.Memory.{candidate_of};
+ghost use Rattle.search_state.specs.Inner.Memory.{overloads_at, problem_in, rest_from, chosen_exprs};
+ghost use Rattle.search_state.specs.Inner.Memory.{best_sorts_at, best_measure_at, choices_kept, candidate_of};
 ghost use Rattle.search_state.specs.Inner.Searching.{Sized};
 ghost use Rattle.search_state.specs.Inner.Solving.{OnlySorts, SameProblem};
 ghost use Rattle.words.specs.Words.{part};
-ghost use Rattle.solve_outputs.specs.Inner.Written.{walked, choice_by, named_rows, no_name, named, base_named};
+ghost use Rattle.solve_outputs.specs.Inner.Written.{walked, slots_stored, choice_by, named_rows, no_name};
+ghost use Rattle.solve_outputs.specs.Inner.Written.{named, base_named};
 ghost use Rattle.solve_outputs.specs.Inner.Written.{name_by_of, chosen_named};
 ghost use Rattle.inference.specs.declared.Verdict.TheVariants.{Typing};
 ghost use Rattle.solve_checks.specs.Inner.Calls.{call_for};
@@ -32,8 +33,8 @@ ghost use Rattle.solve_outputs.specs.Handout.{SameHandout};
 
 use entry_answers::pack;
 use inference::{
-    CHOICE_WORDS, Constraint, ExprId, NAME_WORDS, NameKind, NameTarget, OVERLOAD_WORDS, Outputs,
-    TYPING_WORDS, Verdict,
+    CHOICE_WORDS, Constraint, ExprId, MAX_EXPRS, NAME_WORDS, NameKind, NameTarget, OVERLOAD_WORDS,
+    Outputs, TYPING_WORDS, Verdict,
 };
 use problem_words::{constraint_at, name_target};
 use resolved_sort::{Counts, Refusal, Run, SortId};
@@ -93,39 +94,70 @@ fn write_measure(measure: &mut [u16], search: &Search<'_>)
     );
 }
 
-// Of a disjunction the row of its choice, after k of them. How many there are then.
-#[tactic(auto, unfolding(crate::specs::Inner::Written::choice_by))]
-fn write_choice(choices: &mut [u16], scratch: &[u16], says: Constraint, k: u16) -> u16
+// Of a disjunction the slot of its choice, which comes after k others. How many there are then.
+#[tactic(auto, unfolding(crate::specs::Inner::Written::slots_stored))]
+fn store_slot(slots: &mut [u16], says: Constraint, k: u16) -> u16
     requires { k ≤ max_constraints }
-    ensures { walked choices.new result ≡ choice_by scratch.now says choices.old k }
+    ensures { walked slots.new result
+        ≡ walked (slots_stored (disjunction_for says []) k slots.old) (k + length (disjunction_for says [])) }
 {
     match says {
         Constraint::Disjunction { expr, .. } => {
-            let row = CHOICE_WORDS * (k as usize);
-            put(choices, row, expr.0);
-            put(
-                choices,
-                row + 1,
-                word(scratch, BEST_CHOICES_AT + (k as usize)),
-            );
+            put(slots, expr.0 as usize, k + 1);
             k + 1
         }
         _ => k,
     }
 }
 
-// The choices handed out, in the order of the constraints.
-fn write_choices(choices: &mut [u16], search: &Search<'_>)
-    requires { Sized (problem_in search.now.lists.now search.now.sizes) search.now.sizes
-        × (choice_words * search.now.sizes.disjunctions ≤ length choices.old) }
-    ensures { choices.new
-        ≡ written_over (choice_rows (choices_of (chosen_exprs search.now.lists.now search.now.sizes)
-        (part best_choices_at search.now.sizes.disjunctions search.now.scratch.now)))
-        choices.old }
+// At each expression the slot of its choice: 1 and how many choices come before it, in the order of the constraints, in
+// which they are kept. At an expression without a choice stays what stood there.
+fn store_slots(slots: &mut [u16], search: &Search<'_>)
+    requires { Sized (problem_in search.now.lists.now search.now.sizes) search.now.sizes }
+    ensures { slots.new ≡ slots_stored (chosen_exprs search.now.lists.now search.now.sizes) 0 slots.old }
 {
     let mut k: u16 = 0;
     for i in 0..search.sizes.constraints {
-        k = write_choice(choices, search.scratch, constraint_at(search.lists, i), k);
+        k = store_slot(slots, constraint_at(search.lists, i), k);
+    }
+}
+
+// Of an expression the row of the choice in its slot, after k rows; none where the slot is 0. How many there are then.
+#[tactic(auto, unfolding(crate::specs::Inner::Written::choice_by))]
+fn write_choice(choices: &mut [u16], scratch: &[u16], expr: ExprId, slot: u16, k: u16) -> u16
+    requires { k ≤ max_constraints }
+    ensures { walked choices.new result ≡ choice_by scratch.now expr.0 slot choices.old k }
+{
+    if slot == 0 {
+        return k;
+    }
+    let before = slot - 1;
+    let row = CHOICE_WORDS * (k as usize);
+    put(choices, row, expr.0);
+    put(
+        choices,
+        row + 1,
+        word(scratch, BEST_CHOICES_AT + (before as usize)),
+    );
+    k + 1
+}
+
+// The choices handed out, by rising expression number.
+fn write_choices(choices: &mut [u16], search: &Search<'_>)
+    requires { Sized (problem_in search.now.lists.now search.now.sizes) search.now.sizes
+        × (no_two (chosen_exprs search.now.lists.now search.now.sizes) ≡ true)
+        × (choice_words * search.now.sizes.disjunctions ≤ length choices.old) }
+    ensures { choices.new
+        ≡ written_over (choice_rows (rising (problem_in search.now.lists.now search.now.sizes)
+        (choices_kept search.now.lists.now search.now.sizes search.now.scratch.now)))
+        choices.old }
+{
+    let mut slots = [0u16; MAX_EXPRS];
+    store_slots(&mut slots, search);
+    let mut k: u16 = 0;
+    for x in 0..search.sizes.exprs {
+        let slot = word(&slots, x as usize);
+        k = write_choice(choices, search.scratch, ExprId(x), slot, k);
     }
 }
 
@@ -239,8 +271,7 @@ fn write_typing(typing: &mut [u16], search: &Search<'_>, names: &BaseNames<'_>)
         × (typing_words * search.now.sizes.exprs ≤ length typing.old) }
     ensures { typing.new
         ≡ written_over (typing_rows (problem_in search.now.lists.now search.now.sizes) (names_read names.now.words.now names.now.count)
-        (choices_of (chosen_exprs search.now.lists.now search.now.sizes)
-        (part best_choices_at search.now.sizes.disjunctions search.now.scratch.now))
+        (choices_kept search.now.lists.now search.now.sizes search.now.scratch.now)
         0 (part best_sorts_at search.now.sizes.exprs search.now.scratch.now))
         typing.old }
 {

@@ -29,6 +29,7 @@ use Rattle.inference.specs.SolveChecks.{Call, placed, listed, given, disjunction
 use Rattle.inference.specs.SolveChecks.{components, rows_within_lent, all_within_lent, target_fine, exprs_fine, names_fine}
 use Rattle.inference.specs.SolveChecks.{overload_fine, constraint_fine, constraints_fine, outputs_long, long_enough}
 use Rattle.inference.specs.SolveChecks.{solve_checks}
+use Rattle.inference.specs.Rising.{rising}
 use Rattle.inference.specs.SolveEntry.{problem_of, base_names_of, start_path, lent_of, searched, SolveLeft, left_with}
 use Rattle.inference.specs.SolveEntry.{refused, typing_rows, choice_rows, written_over, counts_in, judged_by, judged}
 use Rattle.inference.specs.SolveEntry.{verdict, nothing_met, solve_entry}
@@ -165,7 +166,7 @@ module _ (g : Given) (ws ns bs xs ks cs ss sc ts ms hs : List ℕ) where
           choices = length c.choices;
         }))) W.sorts
         (written_over (typing_rows P (base_names_of (call os)) c.choices 0 c.sorts) ts) (written_over c.measure
-        ms) (written_over (choice_rows c.choices) hs))
+        ms) (written_over (choice_rows (rising P c.choices)) hs))
         problem_same
 
     by_best : (W : Lent) (b : Option Candidate) → judged (call os) W b ≡ judged (call os') W b

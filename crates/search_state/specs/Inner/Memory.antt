@@ -95,13 +95,17 @@ module _ (ls : List ℕ) (z : Sizes) where
         choices = choices_of (chosen_exprs ls z) (part choices_at e.choices sc);
       }
 
+  -- the choices of the incumbent, in the order of the disjunctions
+  abbrev pub choices_kept : List ℕ → List Choice
+  choices_kept sc = choices_of (chosen_exprs ls z) (part best_choices_at z.disjunctions sc)
+
   -- the incumbent
   unfoldable pub candidate_of : List ℕ → Bool → Candidate
   candidate_of sc tied =
       record {
         measure = part best_measure_at z.components sc;
         sorts = part best_sorts_at z.exprs sc;
-        choices = choices_of (chosen_exprs ls z) (part best_choices_at z.disjunctions sc);
+        choices = choices_kept sc;
         duplicate = tied;
       }
 

@@ -1,24 +1,22 @@
--- A constraint more stores its rows. Assumes nothing.
+-- An expression more stores the row of its choice, if it has one. Assumes nothing.
 use Rattle.std.proofs.Common.{arith}
-use Rattle.solve_outputs.proofs.Choosing.{choices_begin, choices_end, choices_go_on}
+use Rattle.solve_outputs.proofs.Choosing.{rows_begin_in, rows_end_in, rows_go_on_in}
 use Rattle.solve_outputs.proofs.write_choices.Goals as goal
 
-pub loop-i-init : goal.loop-i-init
-loop-i-init c =
-    let a = c.args in
-    choices_begin a.search.now.scratch.now a.choices.now a.search.now.lists.now a.search.now.sizes c.requires.0 c.requires.1 a.search.now.room
+pub loop-x-init : goal.loop-x-init
+loop-x-init c =
+    let s = c.args.search.now in
+    rows_begin_in s.scratch.now c.args.choices.now s.lists.now s.sizes c.requires.0 s.room
 
-pub loop-i-preserved : goal.loop-i-preserved
-loop-i-preserved c =
-    let a = c.args in
-    let l = c.loop-i in
-    choices_go_on a.search.now.scratch.now a.choices.now a.search.now.lists.now a.search.now.sizes.constraints l.choices l.k l.i l.invariant
-    (omega arith) _ c.constraint_at.ensures c.write_choice-k.new.choices c.write_choice-k.result
-    c.write_choice-k.ensures
+pub loop-x-preserved : goal.loop-x-preserved
+loop-x-preserved c =
+    let s = c.args.search.now in
+    let l = c.loop-x in
+    rows_go_on_in s.scratch.now c.args.choices.now s.lists.now s.sizes c.requires.0 s.room c.requires.1 _ c.store_slots.ensures l.choices l.k l.x
+    l.invariant (omega arith) _ c.word-slot.ensures c.write_choice-k.new.choices c.write_choice-k.result c.write_choice-k.ensures
 
 pub returns : goal.returns
 returns c =
-    let a = c.args in
-    let l = c.loop-i in
-    choices_end a.search.now.scratch.now a.choices.now a.search.now.lists.now a.search.now.sizes c.requires.0 c.requires.1 a.search.now.room l.choices l.k
-    l.i l.invariant (omega arith)
+    let s = c.args.search.now in
+    let l = c.loop-x in
+    rows_end_in s.scratch.now c.args.choices.now s.lists.now s.sizes c.requires.0 s.room c.requires.2 l.choices l.k l.x l.invariant (omega arith)

@@ -1,5 +1,5 @@
 -- What only contracts of inner functions cite, beside `specs/Finish.antt`.
-use Rattle.std.specs.Prelude.{Bool, true, false, List, ℕ, ◌*◌, ◌≤◌, length, Ok, Err}
+use Rattle.std.specs.Prelude.{◌≡◌, Bool, true, false, List, ℕ, ◌*◌, ◌≤◌, length, Ok, Err}
 use Rattle.std.proofs.Math.Option.{Option, none, some}
 use Rattle.resolved_sort.specs.declared.Counts.{Counts}
 use Rattle.resolved_sort.specs.Storage.{max_sorts, max_entries, full_length, given_back}
@@ -8,11 +8,12 @@ use Rattle.unification.specs.Nodes.{max_nodes, max_node_entries, full_nodes}
 use Rattle.inference.specs.declared.Verdict.TheVariants.{NoTyping, Ambiguous, Typing}
 use Rattle.inference.specs.Constraints.{BaseName, Problem}
 use Rattle.inference.specs.Search.{Candidate, Out, found, missed, ended}
-use Rattle.inference.specs.SolveChecks.{typing_words, choice_words}
+use Rattle.inference.specs.SolveChecks.{typing_words, choice_words, no_two}
+use Rattle.inference.specs.Rising.{rising}
 use Rattle.inference.specs.SolveEntry.{Solved, SolveLeft, nodes_given_back, cleared, typing_rows, choice_rows}
 use Rattle.inference.specs.SolveEntry.{written_over, counts_in, room_refusal}
 use Rattle.search_state.specs.declared.Sizes.{Sizes}
-use Rattle.search_state.specs.Inner.Memory.{problem_in, scratch_used}
+use Rattle.search_state.specs.Inner.Memory.{problem_in, chosen_exprs, scratch_used}
 use Rattle.search_state.specs.Inner.Searching.{Sized}
 use Rattle.solve_outputs.specs.Finish.{solve_left}
 
@@ -46,7 +47,7 @@ module _ (P : Problem) (names : List BaseName) (ts ms hs : List ℕ) where
       answered
       (Ok (Typing (record { counts = n; components = length c.measure; choices = length c.choices })))
       (written_over (typing_rows P names c.choices 0 c.sorts) ts) (written_over c.measure ms)
-      (written_over (choice_rows c.choices) hs)
+      (written_over (choice_rows (rising P c.choices)) hs)
 
   abbrev pub judged_out_by : Counts → Candidate → Bool → Answered
   judged_out_by n c true = answered (Ok (Ambiguous n)) ts ms hs
@@ -63,13 +64,14 @@ module _ (P : Problem) (names : List BaseName) (ts ms hs : List ℕ) where
   settled_by k (ended c W) =
       settled (given_back k.sorts k.entries W.sorts) (answered (Err (room_refusal c)) ts ms hs)
 
--- room for what is handed out
+-- room for what is handed out, and no two disjunctions for one expression
 pub record Handable (sc ls : List ℕ) (z : Sizes) (ts ms hs : List ℕ) : Type 0 where
   pub sized : Sized (problem_in ls z) z
   pub used : scratch_used ≤ length sc
   pub typing : typing_words * z.exprs ≤ length ts
   pub measure : z.components ≤ length ms
   pub choices : choice_words * z.disjunctions ≤ length hs
+  pub one_each : no_two (chosen_exprs ls z) ≡ true
 
 -- sorts, and nodes, that can be given back
 pub record SortsReturnable (ws : List ℕ) (k : Lengths) : Type 0 where

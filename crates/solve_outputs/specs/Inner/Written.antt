@@ -1,7 +1,8 @@
 -- The rows of choices and of expressions as they are written, one constraint, one base name, one expression after
--- another. Names are written from the last to the first, base names and then choices, so that of two for one expression
--- the first stays, and a choice over a base name.
-use Rattle.std.specs.Prelude.{cond, List, [], ◌∷◌, ℕ, ◌+◌, ◌-◌, ◌*◌, ltb, get_or, set}
+-- another. Choices, kept in the order of the constraints, are written by expression. Names are written from the last to
+-- the first, base names and then choices, so that of two for one expression the first stays, and a choice over a base
+-- name.
+use Rattle.std.specs.Prelude.{cond, List, [], ◌∷◌, ℕ, ◌+◌, ◌-◌, ◌*◌, eqb, ltb, get_or, set}
 use Rattle.std.proofs.Math.Option.{Option, none, some}
 use Rattle.inference.specs.declared.NameTarget.{NameTarget}
 use Rattle.inference.specs.declared.Overload.{Overload}
@@ -24,14 +25,16 @@ walked xs k = record { words = xs; count = k }
 abbrev pub position_at : List ℕ → ℕ → ℕ
 position_at sc k = get_or sc (best_choices_at + k) 0
 
--- one row of choices, after k of them
-unfoldable pub choice_by : List ℕ → Constraint → List ℕ → ℕ → Walked
-choice_by sc (Sub l r) ch k = walked ch k
-choice_by sc (Lit p kind) ch k = walked ch k
-choice_by sc (Disjunction x p run) ch k =
-    walked (set (set ch (choice_words * k) x.0) (choice_words * k + 1) (position_at sc k)) (k + 1)
-choice_by sc (Comprehension body node element) ch k = walked ch k
-choice_by sc (Join run t) ch k = walked ch k
+-- the slots of the choices for expressions, after k others: at each expression 1 and how many choices come before its own
+unfoldable pub slots_stored : List ℕ → ℕ → List ℕ → List ℕ
+slots_stored [] k ss = ss
+slots_stored (x ∷ xs) k ss = slots_stored xs (k + 1) (set ss x (k + 1))
+
+-- the row of the expression x by the slot of its choice, after k rows; none where the slot is 0
+unfoldable pub choice_by : List ℕ → ℕ → ℕ → List ℕ → ℕ → Walked
+choice_by sc x slot ch k =
+    cond (eqb slot 0) (walked ch k)
+    (walked (set (set ch (choice_words * k) x) (choice_words * k + 1) (position_at sc (slot - 1))) (k + 1))
 
 -- the rows of expressions from x on, with a name for each
 unfoldable pub named_rows : (ℕ → Option NameTarget) → ℕ → List ℕ → List ℕ
