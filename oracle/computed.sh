@@ -85,6 +85,7 @@ step "a wrong answer is refused"
 sample | proves || { cat "$work/out"; fail "the sample"; }
 if sample | sed '0,/outcome 0 (expr 3/s//outcome 0 (expr 2/' | proves; then fail "a wrong sort passed"; fi
 if sample | sed '0,/(choice 0 1 \[\])/s//(choice 0 0 [])/' | proves; then fail "a wrong choice passed"; fi
+if sample | sed '0,/(choice 0 1 (choice 2 0 /s//(choice 2 0 (choice 0 1 /' | proves; then fail "a wrong order passed"; fi
 
 step "comparison"
 total=0

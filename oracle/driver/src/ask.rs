@@ -49,7 +49,8 @@ pub fn ask(memory: &Memory, question: Question) -> Result<Asked, Failure> {
     Ok(match hear(memory, question)? {
         (Err(room), tally) => Asked { answer: Answer::code(room.code()), heard: None, tally },
         (Ok(heard), tally) => {
-            let answer = Answer::heard(&heard, &tally, memory.sort_count);
+            let handed_out = Tally { choices: tally.choices_rising(), ..tally.clone() };
+            let answer = Answer::heard(&heard, &handed_out, memory.sort_count);
             Asked { answer, heard: Some(heard), tally }
         }
     })

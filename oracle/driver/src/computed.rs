@@ -212,8 +212,8 @@ fn outcome(list: &Given, asked: &Asked) -> String {
     match &asked.heard {
         Some(Heard { reply: Reply::Solve(Verdict::Typing { sorts, names, measure }), .. }) => {
             let exprs = sorts.iter().zip(names).map(|(sort, (kind, name))| format!("expr {sort} {kind} {name}"));
-            let choices =
-                asked.tally.choices.iter().map(|(expression, position)| format!("choice {expression} {position}"));
+            let choices = asked.tally.choices_rising();
+            let choices = choices.iter().map(|(expression, position)| format!("choice {expression} {position}"));
             let measure: Vec<u16> = measure.iter().map(|&component| component.into()).collect();
             format!(
                 "outcome {code} {} {} {} {} {}",

@@ -67,7 +67,8 @@ impl Answer {
         self
     }
 
-    /// The answer to a question that was put to the Rust on a list of `sorts` sorts.
+    /// The answer to a question that was put to the Rust on a list of `sorts` sorts. The choices stand in the tally as they
+    /// are handed out.
     pub fn heard(heard: &Heard, tally: &Tally, sorts: usize) -> Answer {
         let new = new_words(sorts, &heard.new);
         match &heard.reply {
@@ -151,10 +152,8 @@ fn name_words(kind: u16, sort: u16) -> String {
     }
 }
 
-/// In rising expression number; the order in which they were chosen says nothing.
+/// As they stand.
 fn choice_words(choices: &[(u16, u16)]) -> Vec<String> {
-    let mut choices = choices.to_vec();
-    choices.sort_unstable();
     choices.iter().map(|(expression, position)| format!("e{expression} {position}")).collect()
 }
 

@@ -48,7 +48,8 @@ pub enum End {
 /// What the search did beside its verdict, from the counting build.
 #[derive(Clone, Debug, Default, Eq, PartialEq)]
 pub struct Tally {
-    /// Expression and position of each overload chosen at the incumbent's leaf.
+    /// Expression and position of each overload chosen at the incumbent's leaf, in the order of the constraints; where an
+    /// answer is made of it, as they are handed out.
     pub choices: Vec<(u16, u16)>,
     /// Nodes and their entries made in all, and the most in use at one time.
     pub nodes_made: usize,
@@ -58,6 +59,15 @@ pub struct Tally {
     /// Prefixes dropped because the incumbent's was smaller.
     pub dropped: usize,
     pub events: Vec<Event>,
+}
+
+impl Tally {
+    /// The choices as they are handed out: by rising expression number.
+    pub fn choices_rising(&self) -> Vec<(u16, u16)> {
+        let mut choices = self.choices.clone();
+        choices.sort_unstable();
+        choices
+    }
 }
 
 /// One step of the search that touches room, in time order.

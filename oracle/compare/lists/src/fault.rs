@@ -4,7 +4,7 @@
 pub enum Fault {
     WrongOnce,
     MeasureReversed,
-    ChoicesByExpression,
+    ChoicesByConstraint,
     PositionsFromOne,
     NewOnlyForTyping,
     OpByNumber,
@@ -33,7 +33,7 @@ impl Fault {
     pub const ALL: [(Fault, &str, &str); 24] = [
         (Fault::WrongOnce, "once", "one verdict of a run is wrong, the 777th"),
         (Fault::MeasureReversed, "measure", "the components are from last to first"),
-        (Fault::ChoicesByExpression, "choices", "choices are ordered by expression"),
+        (Fault::ChoicesByConstraint, "choices", "choices are in the order of the constraints"),
         (Fault::PositionsFromOne, "positions", "positions count from 1"),
         (Fault::NewOnlyForTyping, "new", "new sorts are told only for a typing"),
         (Fault::OpByNumber, "op", "the sort of an operation is told by its number"),

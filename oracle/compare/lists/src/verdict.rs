@@ -6,6 +6,7 @@ use lists::memory::Memory;
 use lists::memory::kind;
 use lists::memory::target;
 use lists::verdict::Shape;
+use lists::verdict::Tally;
 use lists::verdict::Verdict;
 use lists::write::shape_words;
 use oracle::ask::Asked;
@@ -26,7 +27,7 @@ pub fn text(memory: &Memory, asked: &Asked, verdict: Option<&Verdict>, new: &[Sh
             line(&mut text, &format!("e{expression}: {}{}", sorts.spelt(sort), sorts.name(name)));
         }
         line(&mut text, &measure_words(measure, fault));
-        line(&mut text, &format!("choices {}", choice_words(&asked.tally.choices, fault)));
+        line(&mut text, &format!("choices {}", choice_words(&asked.tally, fault)));
     }
     if code != 0 && fault == Some(Fault::NewOnlyForTyping) {
         return text;
@@ -49,12 +50,12 @@ fn measure_words(measure: &[u8], fault: Option<Fault>) -> String {
     format!("measure [{}]", words.join(", "))
 }
 
-/// In the order of the constraints, which is that in which they were chosen.
-fn choice_words(choices: &[(u16, u16)], fault: Option<Fault>) -> String {
-    let mut choices = choices.to_vec();
-    if fault == Some(Fault::ChoicesByExpression) {
-        choices.sort_unstable();
-    }
+/// By rising expression number.
+fn choice_words(tally: &Tally, fault: Option<Fault>) -> String {
+    let choices = match fault {
+        Some(Fault::ChoicesByConstraint) => tally.choices.clone(),
+        _ => tally.choices_rising(),
+    };
     let from = if fault == Some(Fault::PositionsFromOne) { 1 } else { 0 };
     let words: Vec<String> =
         choices.iter().map(|(expression, position)| format!("e{expression} {}", position + from)).collect();

@@ -31,7 +31,7 @@ pub fn same(workspace: &mut Workspace, problem: &Problem, sorts: usize, expected
         return Err(format!("the code is {code}, expected {}", expected.code()));
     }
     if let (Ok(typing), Outcome::Searched { verdict, .. }) = (&solved, &expected.outcome) {
-        same_typing(typing, verdict, &expected.tally.choices)?;
+        same_typing(typing, verdict, &expected.tally.choices_rising())?;
         same_new(typing.new_sorts(), sorts, &expected.outcome)?;
     }
     same_new(workspace.new_sorts(), sorts, &expected.outcome)

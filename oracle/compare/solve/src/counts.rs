@@ -24,8 +24,8 @@ pub struct Counts {
     with_sorts: u64,
     with_nodes: u64,
     with_node_room_again: u64,
-    /// Choices that are not in the order of their expressions.
-    with_choices_in_order: u64,
+    /// Typings whose disjunctions do not come in the order of their expressions.
+    with_choices_moved: u64,
     most_components: usize,
     most_choices: usize,
 }
@@ -46,7 +46,7 @@ impl Counts {
         self.with_nodes += u64::from(*nodes_made > 0);
         self.with_node_room_again += u64::from(nodes_made > nodes_peak);
         if let Outcome::Searched { verdict: Verdict::Typing { measure, .. }, .. } = &expected.outcome {
-            self.with_choices_in_order += u64::from(!choices.is_sorted());
+            self.with_choices_moved += u64::from(!choices.is_sorted());
             self.most_components = self.most_components.max(measure.len());
             self.most_choices = self.most_choices.max(choices.len());
         }
@@ -64,8 +64,8 @@ impl fmt::Display for Counts {
         )?;
         write!(
             f,
-            "  typings with choices not by expression: {}; at most {} components, {} choices; overload words left over: {}",
-            self.with_choices_in_order, self.most_components, self.most_choices, self.with_words_left_over
+            "  typings with disjunctions out of expression order: {}; at most {} components, {} choices; overload words left over: {}",
+            self.with_choices_moved, self.most_components, self.most_choices, self.with_words_left_over
         )
     }
 }

@@ -82,7 +82,7 @@ impl Expected {
             for (word, component) in call.measure.iter_mut().zip(measure) {
                 *word = u16::from(*component);
             }
-            for (row, (expression, position)) in call.choices.chunks_exact_mut(2).zip(&self.tally.choices) {
+            for (row, (expression, position)) in call.choices.chunks_exact_mut(2).zip(&self.tally.choices_rising()) {
                 row.copy_from_slice(&[*expression, *position]);
             }
         }

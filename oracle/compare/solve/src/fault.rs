@@ -75,7 +75,9 @@ pub enum Fault {
     NoneNotWritten,
     NamesPastCount,
     PositionInList,
-    ChoicesByExpression,
+    ChoicesByConstraint,
+    FirstChoiceMissing,
+    SlotsFromZero,
     LastChoiceTwice,
     MeasureToEnd,
     CountsMissing,
@@ -143,7 +145,7 @@ pub enum Fault {
 /// The codes of the checks in their order.
 pub const CODES: [u16; 13] = [1, 2, 3, 4, 5, 6, 7, 8, 9, 10, 11, 12, 14];
 
-const SINGLE: [(Fault, &str); 90] = [
+const SINGLE: [(Fault, &str); 92] = [
     (Fault::AlwaysNoTyping, "17 for everything"),
     (Fault::FirstConstraintOnly, "only the first constraint is obeyed"),
     (Fault::DisjunctionStops, "a disjunction stops at its first success"),
@@ -200,7 +202,9 @@ const SINGLE: [(Fault, &str); 90] = [
     (Fault::NoneNotWritten, "a missing name is not written"),
     (Fault::NamesPastCount, "base names past the count are read"),
     (Fault::PositionInList, "a position counts in the whole overload list"),
-    (Fault::ChoicesByExpression, "choices come by expression"),
+    (Fault::ChoicesByConstraint, "choices come in the order of the constraints"),
+    (Fault::FirstChoiceMissing, "the choice of the first expression is not written"),
+    (Fault::SlotsFromZero, "each choice has the position of the one before, the first is not written"),
     (Fault::LastChoiceTwice, "the last choice is written twice"),
     (Fault::MeasureToEnd, "the measure is filled up with zeros"),
     (Fault::CountsMissing, "17 has no counts"),

@@ -215,11 +215,17 @@ fn hand_out(fault: Option<Fault>, memory: &Memory, written: &mut Written, best: 
     }
     written.measure[..best.measure.len()].copy_from_slice(&best.measure);
     let mut choices = best.choices.clone();
-    if has(Fault::ChoicesByExpression) {
+    if has(Fault::SlotsFromZero) {
+        choices = best.choices.windows(2).map(|two| (two[1].0, two[0].1)).collect();
+    }
+    if !has(Fault::ChoicesByConstraint) {
         choices.sort_unstable();
     }
+    if has(Fault::FirstChoiceMissing) {
+        choices.retain(|&(expression, _)| expression != 0);
+    }
     if has(Fault::LastChoiceTwice) {
-        choices.extend(best.choices.last());
+        choices.extend(choices.last().copied());
     }
     for ((expression, position), row) in choices.into_iter().zip(written.choices.chunks_exact_mut(2)) {
         row.copy_from_slice(&[expression, position]);

@@ -38,6 +38,7 @@ fn header(seed: u64, lists: usize, codes: &str) -> String {
 # The answers are those of the excerpt of merc; refusals are those of the model of the checks (lists/src/checks.rs).
 # First the lists of situations.txt and readings.txt that ask for the search; where one has a line `ceilings`, the same
 # room is left by `pad`. Then random ones: the title is the class of oracle-solve-compare and the number under seed {seed}.
+# Then ones of class choice that have a typing and disjunctions out of expression order.
 # Then damaged ones, by their numbers in `oracle-gen --class damaged --seed {seed} --size 1`.
 "
     )

@@ -31,19 +31,24 @@ const LISTS: [(Class, usize, usize, usize); 8] = [
     (Class::Full, 15, 6, 200),
     (Class::Deep, 12, 6, 300),
 ];
+/// Typings of which the disjunctions come out of expression order: how many, and the most bytes of one.
+const OUT_OF_ORDER: usize = 40;
+const OUT_OF_ORDER_BYTES: usize = 400;
 const DAMAGED: usize = 420;
 const DAMAGED_BYTES: usize = 140;
 
 /// So many lists of a class are looked at, and no more.
 const MOST_LOOKED_AT: u64 = 30_000;
 
-/// The situations and readings that ask for the search, lists of the random classes, and damaged ones. The title of
+/// The situations and readings that ask for the search, lists of the random classes, typings of which the disjunctions
+/// come out of expression order, and damaged lists. The title of
 /// a random list is its class and its number, that of a damaged one those of `oracle-gen`.
 pub fn sample(seed: u64) -> Vec<Given> {
     let mut lists = written();
     for (class, count, same, bytes) in LISTS {
         lists.extend(random(class, seed, same, bytes).take(count));
     }
+    lists.extend(out_of_order(seed).take(OUT_OF_ORDER));
     let damaged = (0..).map_while(|index| {
         let mut case = generate::case(generate::Class::Damaged, seed, 1, index)?;
         case.list.title = format!("gen damaged {index}");
@@ -54,20 +59,33 @@ pub fn sample(seed: u64) -> Vec<Given> {
     lists
 }
 
-/// Lists of a class that are short enough, up to `same` of each code.
-fn random(class: Class, seed: u64, same: usize, bytes: usize) -> impl Iterator<Item = Given> {
+/// Lists of a class that are short enough.
+fn short(class: Class, seed: u64, bytes: usize) -> impl Iterator<Item = Given> {
     let cases = Cases::new(class, seed);
     let named = (0..MOST_LOOKED_AT).map_while(move |index| {
         let mut list = cases.list(&mut Rng::of_list(seed, index), index)?;
         list.title = format!("{} {index}", class.name());
         Some(list)
     });
+    named.filter(move |list| list_text(list).len() <= bytes)
+}
+
+/// Of these up to `same` of each code.
+fn random(class: Class, seed: u64, same: usize, bytes: usize) -> impl Iterator<Item = Given> {
     let mut codes = HashMap::new();
-    named.filter(move |list| list_text(list).len() <= bytes).filter(move |list| {
+    short(class, seed, bytes).filter(move |list| {
         let code = Expected::of(&list.memory()).expect("the judges agree").code();
         let taken: &mut usize = codes.entry(code).or_default();
         *taken += 1;
         *taken <= same
+    })
+}
+
+/// Lists that have a typing, and disjunctions out of expression order.
+fn out_of_order(seed: u64) -> impl Iterator<Item = Given> {
+    short(Class::Choice, seed, OUT_OF_ORDER_BYTES).filter(|list| {
+        let expected = Expected::of(&list.memory()).expect("the judges agree");
+        expected.code() == 0 && !expected.tally.choices.is_sorted()
     })
 }
 
