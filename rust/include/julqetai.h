@@ -86,7 +86,7 @@ static inline unsigned julqetai_code(uint64_t answer) { return (unsigned)(answer
 static inline size_t julqetai_sorts(uint64_t answer) { return (size_t)(answer >> 8 & 0xffff); }
 static inline size_t julqetai_entries(uint64_t answer) { return (size_t)(answer >> 24 & 0xffff); }
 
-/* Under 0: the components in `measure`, and the rows in `choices`. */
+/* Under 0: the components in `measure`, and the rows in `choices`, which go by rising expression number. */
 static inline size_t julqetai_components(uint64_t answer) { return (size_t)(answer >> 40 & 0xfff); }
 static inline size_t julqetai_choices(uint64_t answer) { return (size_t)(answer >> 52 & 0xfff); }
 

@@ -72,7 +72,8 @@ impl<'a> Typing<'a> {
         self.measure
     }
 
-    /// The chosen overloads, one for each disjunction, in the order of the constraints.
+    /// The chosen overloads, one for each disjunction, by rising expression number, whatever the order of the
+    /// disjunctions.
     pub fn choices(&self) -> impl ExactSizeIterator<Item = Choice> + use<'a> {
         self.choices.iter().map(|row| Choice { expr: ExprId(row[0]), position: usize::from(row[1]) })
     }

@@ -151,12 +151,13 @@ fn expected() -> String {
     let set = problem.add_sort(Sort::Container { op: ComplexSort::Set, subsort: SortId::NAT });
     let ((_, v), (_, w)) = (problem.fresh_var(), problem.fresh_var());
     let finite = problem.add_node(Node::Generic { op: ComplexSort::FSet, subsort: v.into() });
-    let (first, second) = (problem.add_expr(v), problem.add_expr(w));
+    let (first, second, third) = (problem.add_expr(v), problem.add_expr(w), problem.add_expr(w));
     problem.add_name(first, NameTarget::Variable);
     problem.sub(finite, set);
     let builtin = Overload { target: NameTarget::Builtin, sort: Place::Sort(SortId::POS) };
-    problem.disjunction(second, w, &[Overload::op(SortId::NAT), builtin]);
+    problem.disjunction(third, w, &[builtin, Overload::op(SortId::NAT)]);
     problem.sub(w, SortId::NAT);
+    problem.disjunction(second, w, &[Overload::op(SortId::NAT)]);
 
     let mut workspace = Workspace::new();
     let typing = workspace.solve(&problem).expect("it has a typing");
@@ -197,7 +198,7 @@ fn c_program() {
     let output = Command::new(&program).output().expect("the program runs");
     assert!(output.status.success());
     let answered = expected();
-    assert_eq!(answered, "code 0, sorts 7, entries 0, typing 3 1 0 3 2 3, measure 1 0, choices 1 0");
+    assert_eq!(answered, "code 0, sorts 7, entries 0, typing 3 1 0 3 2 3 3 2 3, measure 1 0, choices 1 0 2 1");
     let lines: [&[&str]; 5] = [
         &[&format!("sort_solve_records: {answered}")],
         &[&format!("sort_solve: {answered}")],

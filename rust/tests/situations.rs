@@ -252,7 +252,7 @@ fn two_joins() {
     check(&problem, Ok((&[NAT, REAL], &[1, 0, 1, 0, 1])));
 }
 
-/// As many components, and as many choices, as there can be.
+/// As many components, and as many choices, as there can be. The choices rise, though the disjunctions fall.
 #[test]
 fn large_answers() {
     let mut problem = Problem::new();
@@ -269,6 +269,6 @@ fn large_answers() {
     let mut workspace = Workspace::new();
     let typing = workspace.solve(&problem).expect("each has one overload that fits");
     let choices: Vec<(ExprId, usize)> = typing.choices().map(|choice| (choice.expr, choice.position)).collect();
-    assert_eq!(choices, (0..256).rev().map(|index| (exprs[index], index % 4)).collect::<Vec<_>>());
+    assert_eq!(choices, (0..256).map(|index| (exprs[index], index % 4)).collect::<Vec<_>>());
     assert!(typing.names().eq(typing.sorts().map(|sort| Some(NameTarget::Op { sort }))));
 }

@@ -28,35 +28,36 @@ static void put_nodes(void)
     memcpy(nodes, rows, sizeof rows);
 }
 
-/* Sub of FSet(v) to Set(Nat); then w is an operation Nat or a built-in Pos, and widens into Nat. */
+/* Sub of FSet(v) to Set(Nat); then w is a built-in Pos or an operation Nat, for expression 2, and widens into Nat; and it is
+ * that operation, for expression 1. */
 static void ask(const char *name, int records)
 {
     uint16_t binds[2] = {JULQETAI_FREE, JULQETAI_FREE};
     const uint16_t v = JULQETAI_FIRST_NODE, w = v + 1, set = v + 2;
-    const uint16_t exprs[2] = {v, w};
+    const uint16_t exprs[3] = {v, w, w};
     const uint16_t base[3] = {0, 1, 0};
-    const uint16_t constraints[15] = {0, set, 6, 0, 0, 2, 1, w, 0, 2, 0, w, 3, 0, 0};
-    const struct julqetai_overload overloads[2] = {{{2, 3}, 3}, {{3, 0}, 2}};
-    const uint16_t words[6] = {2, 3, 3, 3, 0, 2};
-    uint16_t typing[6], measure[2], choices[2];
+    const uint16_t constraints[20] = {0, set, 6, 0, 0, 2, 2, w, 0, 2, 0, w, 3, 0, 0, 2, 1, w, 1, 1};
+    const struct julqetai_overload overloads[2] = {{{3, 0}, 2}, {{2, 3}, 3}};
+    const uint16_t words[6] = {3, 0, 2, 2, 3, 3};
+    uint16_t typing[9], measure[2], choices[4];
     uint64_t answer = 0;
 
     put_sorts();
     put_nodes();
     if (records)
         answer = sort_solve_records(sorts, JULQETAI_SORT_WORDS, 7, 0, nodes, JULQETAI_NODE_WORDS, 3, 0, binds, 2, 2,
-            exprs, 2, 2, base, 3, 1, constraints, 15, 3, overloads, 2, 2, NULL, 0, 0, 1, scratch,
-            JULQETAI_SCRATCH_WORDS, typing, 6, measure, 2, choices, 2);
+            exprs, 3, 3, base, 3, 1, constraints, 20, 4, overloads, 2, 2, NULL, 0, 0, 1, scratch,
+            JULQETAI_SCRATCH_WORDS, typing, 9, measure, 2, choices, 4);
 #ifdef SOLVE_ENTRIES
     else
-        answer = sort_solve(sorts, JULQETAI_SORT_WORDS, 7, 0, nodes, JULQETAI_NODE_WORDS, 3, 0, binds, 2, 2, exprs, 2,
-            2, base, 3, 1, constraints, 15, 3, words, 6, 2, NULL, 0, 0, 1, scratch, JULQETAI_SCRATCH_WORDS, typing, 6,
-            measure, 2, choices, 2);
+        answer = sort_solve(sorts, JULQETAI_SORT_WORDS, 7, 0, nodes, JULQETAI_NODE_WORDS, 3, 0, binds, 2, 2, exprs, 3,
+            3, base, 3, 1, constraints, 20, 4, words, 6, 2, NULL, 0, 0, 1, scratch, JULQETAI_SCRATCH_WORDS, typing, 9,
+            measure, 2, choices, 4);
 #endif
     (void)words;
     printf("%s: code %u, sorts %zu, entries %zu, typing", name, julqetai_code(answer), julqetai_sorts(answer),
         julqetai_entries(answer));
-    for (int word = 0; word < 6; word++)
+    for (int word = 0; word < 9; word++)
         printf(" %u", typing[word]);
     printf(", measure");
     for (size_t index = 0; index < julqetai_components(answer); index++)
