@@ -3,3 +3,4 @@ pub mod Laws
 pub mod Settling
 pub mod Growing
 pub mod Fronts
+pub mod Unbound

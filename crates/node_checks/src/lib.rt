@@ -1,7 +1,7 @@
 // Checks 1 and 5 to 7 of document 01 over lent nodes and bindings, and the first of 5 to 7 that fails. Check 7, no
 // variable reaches itself: round by round a variable is settled when it is free or when what it is bound to is settled,
 // and a sort when all that stands in it is; as many rounds as there are variables settle all that can be, and where all
-// are settled before, no further round is made.
+// are settled before, no further round is made. Where nothing is bound, none is.
 #![tactic(auto)]
 
 ghost use Rattle.std.specs.Prelude.{◌≡◌, ◌+◌, ◌<◌, ◌≤◌, false, length, get_or, take};
@@ -11,7 +11,7 @@ ghost use Rattle.unification.specs.Nodes.{max_nodes, is_place, binding_of, binds
 ghost use Rattle.unification.specs.Nodes.{node_shape};
 ghost use Rattle.unification.specs.NodeChecks.{nodes_within_lent, bindings_within_lent, node_parts_fine, node_kind_fine};
 ghost use Rattle.unification.specs.NodeChecks.{node_fine, nodes_fine, binding_fine, bindings_fine, node_checks};
-ghost use Rattle.node_checks.specs.Inner.Tests.{arg_placed};
+ghost use Rattle.node_checks.specs.Inner.Tests.{arg_placed, is_free, nothing_bound};
 ghost use Rattle.unification.specs.Acyclic.{place_settled, all_settled, shape_settled, nodes_settled, binding_settled};
 ghost use Rattle.unification.specs.Acyclic.{vars_settled, all_true, acyclic as acyclicOf};
 
@@ -225,11 +225,28 @@ fn all_set(flags: &[bool]) -> bool
     flags.iter().all(|&set| set)
 }
 
-// Check 7: no variable reaches itself.
+// Whether a binding is free.
+fn is_free(w: u16) -> bool
+    ensures { result ≡ is_free (binding_of w) }
+{
+    binding_of(w).is_none()
+}
+
+// Whether nothing is bound: each of the v bindings is free.
+fn nothing_bound(binds: &[u16], v: usize) -> bool
+    ensures { result ≡ nothing_bound (binds_of binds.now v) }
+{
+    (0..v).all(|i| is_free(word(binds, i)))
+}
+
+// Check 7: no variable reaches itself, as none does where nothing is bound.
 fn acyclic(nodes: &[u16], m: usize, binds: &[u16], v: usize) -> bool
     requires { (m ≤ max_nodes) × (v ≤ max_vars) }
     ensures { result ≡ acyclicOf nodes.now m (binds_of binds.now v) }
 {
+    if nothing_bound(binds, v) {
+        return true;
+    }
     let mut vars = [false; MAX_VARS];
     let mut flags = [false; MAX_NODES];
     for _round in 0..v {

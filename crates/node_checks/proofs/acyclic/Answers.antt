@@ -1,10 +1,17 @@
--- A round of the code is a round of the definition. Assumes nothing.
+-- Where nothing is bound the bindings are acyclic; else a round of the code is a round of the definition. Assumes nothing.
 use Rattle.std.proofs.Common.{arith, refl, sym, ◌∙◌}
 use Rattle.unification.specs.Nodes.{binds_of}
 use Rattle.unification.proofs.Passed.{length_binds}
 use Rattle.node_checks.proofs.Settling as law
 use Rattle.node_checks.proofs.Growing as grows
+use Rattle.node_checks.proofs.Unbound as unbound
 use Rattle.node_checks.proofs.acyclic.Goals as goal
+
+pub returns-then-nothing_bound : goal.returns-then-nothing_bound
+returns-then-nothing_bound c =
+    let a = c.args in
+    unbound.unbound_is_acyclic a.nodes.now a.m (binds_of a.binds.now a.v)
+    (sym c.nothing_bound.ensures ∙ c.if-nothing_bound.true)
 
 pub loop-round-init : goal.loop-round-init
 loop-round-init c =
