@@ -37,3 +37,13 @@ pub mod GivenBack
 pub mod FirstFailing
 pub mod Testing
 pub mod FailingNumber
+pub mod IndexSlots
+pub mod IndexSeen
+pub mod IndexFull
+pub mod IndexHeld
+pub mod IndexFirst
+pub mod IndexScan
+pub mod IndexAppend
+pub mod IndexTwice
+pub mod IndexExamples
+pub mod IndexWords

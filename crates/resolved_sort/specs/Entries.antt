@@ -1,17 +1,16 @@
--- What each entry of the sorts layer answers and leaves in the lent storage, for every input: document 01, "Verdict
--- codes" and "Sorts (002)".
+-- What each entry of the sorts layer answers, for every input: document 01, "Verdict codes" and "Sorts (002)"; and what
+-- calls that make sorts leave. Join and meet, which are lent an index too, stand in JoinMeet.
 use Rattle.std.specs.Prelude.{Bool, true, List, ℕ, ◌-◌, length, drop, Result, Ok, Err}
 use Rattle.std.specs.Prelude as Rust
 use Rattle.resolved_sort.specs.declared.Counts.{Counts}
 use Rattle.std.specs.declared.cmp.Ordering.{Ordering}
 use Rattle.resolved_sort.specs.declared.Steps.{Steps as StepsAnswer}
 use Rattle.resolved_sort.specs.declared.Refusal.{Refusal}
-use Rattle.resolved_sort.specs.declared.Refusal.TheVariants.{SortsFull}
 use Rattle.resolved_sort.specs.declared.SortId.{SortId}
 use Rattle.resolved_sort.specs.Tree.{Tree}
 use Rattle.resolved_sort.specs.Order.{ordering, steps_of, distance, materializable}
-use Rattle.resolved_sort.specs.Interning.{Sorts, look, number, Outcome, made, nothing, full, make}
-use Rattle.resolved_sort.specs.Storage.{max_entries, trees, sorts_of, written, given_back}
+use Rattle.resolved_sort.specs.Interning.{Sorts, look, number, Outcome, made, nothing, full}
+use Rattle.resolved_sort.specs.Storage.{max_entries, trees, written}
 use Rattle.resolved_sort.specs.Checks.{code_of, Tested, first_failing, pair_checks}
 
 -- the sort of number a
@@ -66,27 +65,3 @@ stored ws n e (made t S) =
     record { words = after ws n e S; answer = At (record { 0 = number S.trees t }) (counts_of S) }
 stored ws n e (nothing S) = record { words = after ws n e S; answer = Nothing (counts_of S) }
 stored ws n e (full S) = record { words = after ws n e S; answer = Full }
-
--- The join or meet of two sorts where there is one, and the counts after it; or why the call is refused.
-abbrev pub Bounded : Type 0
-Bounded = Result (Rust.Option SortId × Counts) Refusal
-
--- What join (up true) and meet (up false) leave and answer as entries.
-pub record SortsLeft : Type 0 where
-  pub words : List ℕ
-  pub answer : Bounded
-
-abbrev pub sorts_left : List ℕ → Bounded → SortsLeft
-sorts_left ws r = record { words = ws; answer = r }
-
--- "Join and meet keep the sorts the Rust's would make, also where the answer is none"; 15 gives them back.
-unfoldable pub sorts_left_by : List ℕ → ℕ → ℕ → Stored → Joined → SortsLeft
-sorts_left_by ws n e r (At s k) = sorts_left r.words (Ok (Rust.Some s, k))
-sorts_left_by ws n e r (Nothing k) = sorts_left r.words (Ok (Rust.None, k))
-sorts_left_by ws n e r Full = sorts_left (given_back n e ws) (Err SortsFull)
-
-unfoldable pub bounded : Bool → List ℕ → ℕ → ℕ → ℕ → ℕ → SortsLeft
-bounded up ws n e a b =
-    refused_or (first_failing (pair_checks ws n e a b)) (λ c. sorts_left ws (Err c))
-    (let r : Stored = stored ws n e (make up (tree_at ws n a) (tree_at ws n b) (sorts_of ws n e)) in
-    sorts_left_by ws n e r r.answer)

@@ -9,5 +9,7 @@ pub mod Checks
 pub mod Entries
 pub mod Rows
 pub mod Bounds
+pub mod Index
+pub mod JoinMeet
 pub mod Growing
 pub mod Inner

@@ -42,6 +42,10 @@ first_from p (suc k) i = cond (p i) i (first_from p k (i + 1))
 unfoldable pub find_row : List ℕ → ℕ → Row → ℕ
 find_row ws n r = first_from (λ i. same_row (words_at ws i) r) n 0
 
+-- the sort of that number, where there is one
+abbrev pub found_row : List ℕ → ℕ → Row → Option SortId
+found_row ws n r = cond (ltb (find_row ws n r) n) (Some (record { 0 = find_row ws n r })) None
+
 abbrev pub stored_at : List ℕ → Joined → Stored
 stored_at ws r = record { words = ws; answer = r }
 

@@ -198,6 +198,9 @@ pub const ENTRIES_AT: usize = 4096;
 
 pub const SORT_WORDS: usize = 8192;
 
+// The slots of the index of sorts, each a word.
+pub const SLOTS: usize = 2048;
+
 // The kinds of rows: below FIRST_CONTAINER those without a part, unit and the primitive sorts; then containers, a
 // function, Def and TypeVar.
 // kept: kinds are numbers, since the layout of the lent words is the C interface.
