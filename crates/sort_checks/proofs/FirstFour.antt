@@ -12,7 +12,7 @@ use Rattle.resolved_sort.specs.Storage.{max_sorts, max_entries, entries_at}
 use Rattle.resolved_sort.specs.Checks.{within_lent, fixed_six, rows_fine, no_two_equal, Check, first_failing, sort_checks}
 use Rattle.resolved_sort.proofs.FirstFailing.{first_fails, first_passes}
 use Rattle.resolved_sort.proofs.Twice.{rows_differ_exactly}
-use Rattle.sort_checks.specs.Inner.Tests.{no_same_rows, new_row, other_row}
+use Rattle.resolved_sort.specs.Rows.{rows_differ}
 
 -- checks 1 to 4
 module _ (ws : List ℕ) (n e : ℕ) where
@@ -64,12 +64,11 @@ module _ (ws : List ℕ) (n e : ℕ) where
           pub fails_3 : not b₃ ≡ true → Err BadSort ≡ first_failing (sort_checks ws n e)
           fails_3 h = sym (past_2 ∙ first_fails three _ (failing b₃ _ e₃ h))
 
-          module _ (h₃ : not b₃ ≡ false) (b₄ : Bool) (e₄ : b₄ ≡ no_same_rows ws n) where
+          module _ (h₃ : not b₃ ≡ false) (b₄ : Bool) (e₄ : b₄ ≡ rows_differ ws n) where
             past_3 : first_failing (sort_checks ws n e) ≡ first_failing (four ∷ [])
             past_3 = past_2 ∙ first_passes three _ (passing b₃ _ e₃ h₃)
 
             by_structure : b₄ ≡ no_two_equal ws n
-            unfolding no_same_rows new_row other_row
             by_structure = e₄ ∙ rows_differ_exactly ws e n (passing b₃ _ e₃ h₃)
 
             pub fails_4 : not b₄ ≡ true → Err EqualSorts ≡ first_failing (sort_checks ws n e)

@@ -5,13 +5,14 @@ ghost use Rattle.std.specs.Prelude.{◌≡◌, ◌+◌, ◌≤◌};
 ghost use Rattle.resolved_sort.specs.Storage.{max_sorts};
 ghost use Rattle.resolved_sort.specs.Checks.{first_failing, sort_checks, storage_within, within_lent, fixed_six, parts_below, row_fine_of};
 ghost use Rattle.resolved_sort.specs.Checks.{rows_fine, all_below};
-ghost use Rattle.sort_checks.specs.Inner.Tests.{arg_below, new_row, no_same_rows};
+ghost use Rattle.resolved_sort.specs.Rows.{rows_differ};
+ghost use Rattle.sort_checks.specs.Inner.Tests.{arg_below};
 
 use resolved_sort::{
     ENTRIES_AT, LAST_KIND, MAX_ARGUMENTS, MAX_ENTRIES, ROW_WORDS, Refusal, ResolvedSort, Run,
-    SORT_NUMBERS, SortId,
+    SLOTS, SORT_NUMBERS, SortId,
 };
-use sort_interner::{get, same_rows};
+use sort_interner::{enter, get, lookup};
 use words::word;
 
 // Check 1 of storage: n rows, at most so many, and e entries behind the room for all rows are within what was lent.
@@ -104,21 +105,22 @@ impl<'a> Lent<'a> {
         (0..self.sorts).all(|i| self.row_fine(SortId(i as u16)))
     }
 
-    // Whether no row below a sort's row is the same as it. The row itself does not count.
-    fn new_row(&self, id: SortId) -> bool
-        ensures { result ≡ new_row self.now.words.now id.0 }
-    {
-        (0..id.0).all(|i| !same_rows(self.words, SortId(i), id))
-    }
-
-    // Check 4 on rows: no two of them are the same. No pair is left out.
+    // Check 4 on rows: no two of them are the same. Each is looked up among those before it, in an index of its own, since
+    // a check changes nothing that was lent.
     // A sort with two numbers would break what all above rests on: that sorts are equal exactly where their numbers are.
-    // kept: beside rows_fine: each is one `all` over the rows, of a test of its own.
     fn no_two_equal_rows(&self) -> bool
         requires { self.now.sorts ≤ max_sorts }
-        ensures { result ≡ no_same_rows self.now.words.now self.now.sorts }
+        ensures { result ≡ rows_differ self.now.words.now self.now.sorts }
     {
-        (0..self.sorts).all(|j| self.new_row(SortId(j as u16)))
+        let mut index = [0; SLOTS];
+        for j in 0..self.sorts {
+            let id = SortId(j as u16);
+            if lookup(self.words, &index, &id).is_some() {
+                return false;
+            }
+            enter(self.words, &mut index, id);
+        }
+        true
     }
 }
 

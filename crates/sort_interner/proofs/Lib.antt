@@ -2,6 +2,8 @@
 pub mod Apart
 pub mod Runs
 pub mod Rows
-pub mod Find
+pub mod Mixing
+pub mod Walk
+pub mod Filled
 pub mod Stores
 pub mod Interned

@@ -1,5 +1,6 @@
 // Merc's SortInterner over lent storage: one slice of 16-bit words, rows of four words first and argument entries
-// behind them. A row is read, found or appended, and sorts made are given back. Interning stands here alone.
+// behind them, and one for the index by which a row is found. A row is read, found or appended, and sorts made are given
+// back. Interning stands here alone.
 #![tactic(auto)]
 
 ghost use Rattle.std.specs.Prelude.{◌≡◌, cond, ◌+◌, ◌*◌, ◌≤◌, ◌<◌, List, ℕ, length, take, eqb};
@@ -9,19 +10,24 @@ ghost use Rattle.resolved_sort.specs.Storage.{row_words, fixed_sorts, fixed_rows
 ghost use Rattle.words.specs.Words.{zeros};
 ghost use Rattle.resolved_sort.specs.Storage.{function_kind, resolved, row_at, entry_at, entries_of, words_at, kind_op, put_row};
 ghost use Rattle.resolved_sort.specs.Storage.{append_row, given_back, trees, look_all};
-ghost use Rattle.resolved_sort.specs.Rows.{same_words, same_row, stored_at, interned_at, intern_row, Checked};
+ghost use Rattle.resolved_sort.specs.Rows.{same_words, same_row, interned_at, intern_row, Checked};
 ghost use Rattle.resolved_sort.specs.Rows.{AllBelow};
 ghost use Rattle.resolved_sort.specs.Inner.Storage.{sort_numbers};
-ghost use Rattle.sort_interner.specs.Inner.Tests.{given_row, is_row, found_row, RunAt};
+ghost use Rattle.sort_interner.specs.Inner.Tests.{given_row, is_row, RunAt};
 ghost use Rattle.resolved_sort.specs.Tree.{container, function as functionSort};
 ghost use Rattle.resolved_sort.specs.Interning.{look};
 ghost use Rattle.resolved_sort.specs.Bounds.{intern_at};
+ghost use Rattle.resolved_sort.specs.Index.{lookup, entered, Indexed};
 
 use resolved_sort::{
     ARGUMENT_WORDS, ComplexSort, Counts, DEF_KIND, ENTRIES_AT, FIRST_CONTAINER, FIXED_SORTS,
     FUNCTION_KIND, MAX_ENTRIES, NoRoom, ROW_WORDS, ResolvedSort, Run, SORT_NUMBERS, Sort, SortId,
 };
 use words::{clear, put, word};
+
+mod index;
+
+pub use index::{clear_index, enter, fill_index, lookup};
 
 // The sorts of a checked list: what the checks before a call have shown of them holds as long as they are lent.
 #[derive(Clone, Copy)]
@@ -36,6 +42,7 @@ pub struct Sorts<'a> {
 #[derive(Drop)]
 pub struct SortInterner<'a> {
     pub words: &'a mut [u16],
+    pub index: &'a mut [u16],
     pub counts: Counts,
 }
 
@@ -274,15 +281,13 @@ impl<'a> SortInterner<'a> {
         get(self.words, id)
     }
 
-    // The first sort whose row is this one, never a later one.
+    // The sort whose row is this one, as a lookup in the index gives it.
     fn find_row(&self, row: &Row) -> Option<SortId>
         ensures { result
-            ≡ found_row self.now.words.now self.now.counts.sorts
+            ≡ lookup self.now.words.now self.now.index.now
             (given_row row.now.kind row.now.part row.now.args.now) }
     {
-        (0..self.counts.sorts)
-            .map(SortId)
-            .find(|&id| is_row(self.words, id, row))
+        lookup(self.words, self.index, row)
     }
 
     // The k-th argument of a function with this domain.
@@ -292,15 +297,19 @@ impl<'a> SortInterner<'a> {
         entry(self.words, domain, k)
     }
 
-    // A row appended where there is room, and its number. Only a function's row names a start; of others it is 0.
+    // A row appended where there is room, and entered into the index; and its number. Only a function's row names a start;
+    // of others it is 0.
     fn append_row(&mut self, row: &Row) -> SortId
         requires { (self.old.counts.sorts < max_sorts)
             × (length row.now.args.now ≤ max_arguments)
             × (self.old.counts.entries + length row.now.args.now ≤ max_entries) }
         ensures same_reference { self.new.words.ghost_name ≡ self.old.words.ghost_name }
+        ensures same_index { self.new.index.ghost_name ≡ self.old.index.ghost_name }
         ensures words { self.new.words.now
             ≡ append_row self.old.words.now self.old.counts.sorts self.old.counts.entries
             (given_row row.now.kind row.now.part row.now.args.now) }
+        ensures index { self.new.index.now
+            ≡ entered self.new.words.now self.old.index.now self.old.counts.sorts }
         ensures counts { self.new.counts
             ≡ record {
               sorts = self.old.counts.sorts + 1;
@@ -311,8 +320,11 @@ impl<'a> SortInterner<'a> {
         let Counts { sorts, entries } = self.counts;
         let count = row.args.len() as u16;
         let start = start_of(row.kind, entries);
-        put_row(self.words, sorts, row.kind, row.part.0, start, count);
-        put_sorts(self.words, entries, row.args);
+        let words = &mut *self.words;
+        let index = &mut *self.index;
+        put_row(words, sorts, row.kind, row.part.0, start, count);
+        put_sorts(words, entries, row.args);
+        enter(words, index, SortId(sorts));
         self.counts = Counts {
             sorts: sorts + 1,
             entries: entries + count,
@@ -320,13 +332,17 @@ impl<'a> SortInterner<'a> {
         SortId(sorts)
     }
 
-    // The row's number: the first row that is the same, else one more row where there is room. Nothing changes where
+    // The row's number: that of the row that is the same, else of one more row where there is room. Nothing changes where
     // the row is found or there is no room.
     // Each distinct sort is stored once, so that equality of sorts is that of their numbers. The six that merc interns
     // first stand at the front of every list (check 2).
     fn intern(&mut self, row: &Row) -> Result<SortId, NoRoom>
-        requires { length row.now.args.now ≤ max_arguments }
+        requires fine { Checked self.old.words.now self.old.counts.sorts self.old.counts.entries
+            × (length row.now.args.now ≤ max_arguments) }
+        requires indexed { Indexed self.old.words.now self.old.counts.sorts self.old.index.now }
         ensures same_reference { self.new.words.ghost_name ≡ self.old.words.ghost_name }
+        ensures same_index { self.new.index.ghost_name ≡ self.old.index.ghost_name }
+        ensures indexed { Indexed self.new.words.now self.new.counts.sorts self.new.index.now }
         ensures interned { interned_at self.new.words.now self.new.counts result
             ≡ intern_row self.old.words.now self.old.counts.sorts self.old.counts.entries
             (given_row row.now.kind row.now.part row.now.args.now) }
@@ -343,9 +359,12 @@ impl<'a> SortInterner<'a> {
 
     // Interns the container sort `op(subsort)`.
     pub fn generic(&mut self, op: ComplexSort, subsort: SortId) -> Result<SortId, NoRoom>
-        requires { Checked self.old.words.now self.old.counts.sorts self.old.counts.entries
+        requires fine { Checked self.old.words.now self.old.counts.sorts self.old.counts.entries
             × (subsort.0 < self.old.counts.sorts) }
+        requires indexed { Indexed self.old.words.now self.old.counts.sorts self.old.index.now }
         ensures same_reference { self.new.words.ghost_name ≡ self.old.words.ghost_name }
+        ensures same_index { self.new.index.ghost_name ≡ self.old.index.ghost_name }
+        ensures indexed { Indexed self.new.words.now self.new.counts.sorts self.new.index.now }
         ensures interned { interned_at self.new.words.now self.new.counts result
             ≡ intern_at self.old.words.now self.old.counts.sorts self.old.counts.entries
             (container op (look (trees self.old.words.now self.old.counts.sorts) subsort.0)) }
@@ -359,11 +378,14 @@ impl<'a> SortInterner<'a> {
 
     // Interns the function sort `domain -> range`.
     pub fn function(&mut self, domain: &[SortId], range: SortId) -> Result<SortId, NoRoom>
-        requires { Checked self.old.words.now self.old.counts.sorts self.old.counts.entries
+        requires fine { Checked self.old.words.now self.old.counts.sorts self.old.counts.entries
             × (range.0 < self.old.counts.sorts)
             × (length domain.now ≤ max_arguments)
             × AllBelow self.old.counts.sorts (sort_numbers domain.now) }
+        requires indexed { Indexed self.old.words.now self.old.counts.sorts self.old.index.now }
         ensures same_reference { self.new.words.ghost_name ≡ self.old.words.ghost_name }
+        ensures same_index { self.new.index.ghost_name ≡ self.old.index.ghost_name }
+        ensures indexed { Indexed self.new.words.now self.new.counts.sorts self.new.index.now }
         ensures interned { interned_at self.new.words.now self.new.counts result
             ≡ intern_at self.old.words.now self.old.counts.sorts self.old.counts.entries
             (functionSort
@@ -377,16 +399,45 @@ impl<'a> SortInterner<'a> {
         })
     }
 
-    // What 15 leaves: zero past the counts that the call began with, and the sorts before them as they are.
+    // What 15 leaves: zero past the counts that the call began with, and the sorts before them as they are. The index still
+    // has the sorts given back.
     pub fn give_back(&mut self, counts: Counts)
         requires { (counts.sorts ≤ max_sorts)
             × (counts.entries ≤ max_entries)
             × (full_length ≤ length self.old.words.now) }
         ensures same_reference { self.new.words.ghost_name ≡ self.old.words.ghost_name }
+        ensures same_index { self.new.index.ghost_name ≡ self.old.index.ghost_name }
         ensures given_back { self.new.words.now ≡ given_back counts.sorts counts.entries self.old.words.now }
+        ensures index { self.new.index.now ≡ self.old.index.now }
         ensures counts { self.new.counts ≡ counts }
     {
         give_back(self.words, counts.sorts as usize, counts.entries as usize);
         self.counts = counts;
     }
+}
+
+// Interns a container sort over lists apart, with the counts then.
+// kept: two slices of one struct, an Arena or a Search, apart: of an interner made of them where that struct is changed
+// again, no proof is generated.
+pub fn generic_over(
+    words: &mut [u16],
+    index: &mut [u16],
+    counts: Counts,
+    op: ComplexSort,
+    subsort: SortId,
+) -> (Result<SortId, NoRoom>, Counts)
+    requires fine { Checked words.old counts.sorts counts.entries × (subsort.0 < counts.sorts) }
+    requires indexed { Indexed words.old counts.sorts index.old }
+    ensures indexed { Indexed words.new result.1.sorts index.new }
+    ensures interned { interned_at words.new result.1 result.0
+        ≡ intern_at words.old counts.sorts counts.entries
+        (container op (look (trees words.old counts.sorts) subsort.0)) }
+{
+    let mut interner = SortInterner {
+        words,
+        index,
+        counts,
+    };
+    let id = interner.generic(op, subsort);
+    (id, interner.counts)
 }

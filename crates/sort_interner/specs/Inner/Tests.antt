@@ -1,9 +1,9 @@
 -- A row held against another, by name, and the run of a row as far as it is looked at.
-use Rattle.std.specs.Prelude.{◌≡◌, Bool, cond, List, ℕ, eqb, ltb, Option, Some, None}
+use Rattle.std.specs.Prelude.{◌≡◌, Bool, cond, List, ℕ, eqb}
 use Rattle.resolved_sort.specs.declared.Run.{Run}
 use Rattle.resolved_sort.specs.declared.SortId.{SortId}
 use Rattle.resolved_sort.specs.Storage.{function_kind, kind_at, start_at, count_at, entries_of, Row, words_at}
-use Rattle.resolved_sort.specs.Rows.{same_row, find_row}
+use Rattle.resolved_sort.specs.Rows.{same_row}
 use Rattle.resolved_sort.specs.Inner.Storage.{sort_numbers}
 
 -- The row of a kind, a part and arguments.
@@ -13,10 +13,6 @@ given_row kind part args = record { kind = kind; part = part.0; args = sort_numb
 -- Row i is the row r.
 unfoldable pub is_row : List ℕ → Row → ℕ → Bool
 is_row ws r i = same_row (words_at ws i) r
-
--- the first sort below n whose row is r, where there is one
-abbrev pub found_row : List ℕ → ℕ → Row → Option SortId
-found_row ws n r = cond (ltb (find_row ws n r) n) (Some (record { 0 = find_row ws n r })) None
 
 -- only a function has a run: of every other kind it is empty, whatever the words there are
 unfoldable pub run_words : List ℕ → ℕ → Run

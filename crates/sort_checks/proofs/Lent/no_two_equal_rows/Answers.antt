@@ -1,9 +1,20 @@
--- What `all` ran is what the definition tests. Assumes nothing.
-use Rattle.std.proofs.Common.{of_calls, refl}
-use Rattle.sort_checks.specs.Inner.Tests.{no_same_rows}
-use Rattle.resolved_sort.proofs.ByAll.{all_below_by_all}
+-- A row that is found is one twice; one that is not is new, and is entered. Assumes nothing.
+use Rattle.std.proofs.Common.{refl}
+use Rattle.resolved_sort.proofs.IndexAppend.{indexed_none, indexed_one_more}
+use Rattle.resolved_sort.proofs.IndexTwice as law
 use Rattle.sort_checks.proofs.Lent.no_two_equal_rows.Goals as goal
 
-pub returns : goal.returns
-unfolding no_same_rows
-returns c = all_below_by_all _ _ _ _ _ refl c.all.ensures.ran (λ x b q k. search of_calls)
+pub loop-j-init : goal.loop-j-init
+loop-j-init c = (law.none_differ_yet _, indexed_none _ _ refl)
+
+pub returns-then-is_some : goal.returns-then-is_some
+returns-then-is_some c =
+    law.found_twice _ _ _ _ c.requires c.loop-j-test.true c.loop-j.invariant.0 c.loop-j.invariant.1 _ c.lookup.ensures _ c.is_some.ensures
+    c.if-is_some.true
+
+pub loop-j-preserved : goal.loop-j-preserved
+loop-j-preserved c = (
+  law.found_none _ _ _ _ c.requires c.loop-j-test.true c.loop-j.invariant.0 c.loop-j.invariant.1 _ c.lookup.ensures _ c.is_some.ensures
+      c.if-is_some.false,
+  indexed_one_more _ _ _ c.loop-j.invariant.1 _ c.enter.ensures,
+)

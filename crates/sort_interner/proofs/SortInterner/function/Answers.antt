@@ -7,5 +7,5 @@ use Rattle.sort_interner.proofs.SortInterner.function.Goals as goal
 pub returns-clause-interned : goal.returns-clause-interned
 returns-clause-interned c =
     let s = c.args.self.now in
-    let p = c.requires in
+    let p = c.requires.fine in
     c.intern.ensures.interned ∙ law.function_interns s.words.now s.counts p.0 (sort_numbers c.args.domain.now) c.args.range.0 p.3 p.1

@@ -8,5 +8,5 @@ pub returns-clause-interned : goal.returns-clause-interned
 unfolding sort_numbers
 returns-clause-interned c =
     let s = c.args.self.now in
-    let p = c.requires in
+    let p = c.requires.fine in
     rw c.from.ensures at c.intern.ensures.interned ∙ law.generic_interns s.words.now s.counts p.0 c.args.op c.args.subsort.0 p.1

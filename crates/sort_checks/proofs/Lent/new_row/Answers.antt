@@ -1,9 +1,0 @@
--- What `all` ran is what the definition tests. Assumes nothing.
-use Rattle.std.proofs.Common.{of_calls, refl}
-use Rattle.sort_checks.specs.Inner.Tests.{new_row, other_row}
-use Rattle.resolved_sort.proofs.ByAll.{all_below_by_all}
-use Rattle.sort_checks.proofs.Lent.new_row.Goals as goal
-
-pub returns : goal.returns
-unfolding new_row other_row
-returns c = all_below_by_all _ _ _ _ _ refl c.all.ensures.ran (λ x b q k. search of_calls)
