@@ -1,12 +1,13 @@
 // Join and meet of merc's resolved sorts. The join of two functions takes the meet of their arguments, and the meet their
 // join, so one function makes both, with a direction. New sorts are appended; where the answer is none, what was made
-// stays.
+// stays. New sorts enter the index.
 #![tactic(auto)]
 
 ghost use Rattle.std.specs.Prelude.{◌≡◌, true, false, not};
 ghost use Rattle.resolved_sort.specs.Order.{le_level};
 ghost use Rattle.resolved_sort.specs.Rows.{left_at};
 ghost use Rattle.resolved_sort.specs.Bounds.{Asked, bound_at};
+ghost use Rattle.resolved_sort.specs.Index.{Indexed};
 ghost use Rattle.sort_bounds.specs.Farther.{farther};
 
 use resolved_sort::{ARGUMENT_WORDS, NoRoom, ResolvedSort, SortId};
@@ -41,8 +42,11 @@ fn farther<H: Graded, T: Copy>(up: bool, lhs_head: H, rhs_head: H, lhs: T, rhs: 
 // their join (see is_materializable): who binds something to it asks that of every source first.
 #[cycle(join_meet)]
 pub fn join(sorts: &mut SortInterner, lhs: SortId, rhs: SortId) -> Result<Option<SortId>, NoRoom>
-    requires { Asked sorts.old.words.now sorts.old.counts.sorts sorts.old.counts.entries lhs.0 rhs.0 }
+    requires asked { Asked sorts.old.words.now sorts.old.counts.sorts sorts.old.counts.entries lhs.0 rhs.0 }
+    requires indexed { Indexed sorts.old.words.now sorts.old.counts.sorts sorts.old.index.now }
     ensures same_reference { sorts.new.words.ghost_name ≡ sorts.old.words.ghost_name }
+    ensures same_index { sorts.new.index.ghost_name ≡ sorts.old.index.ghost_name }
+    ensures indexed { Indexed sorts.new.words.now sorts.new.counts.sorts sorts.new.index.now }
     ensures left { left_at sorts.new.words.now sorts.new.counts result
         ≡ bound_at true sorts.old.words.now sorts.old.counts.sorts sorts.old.counts.entries lhs.0 rhs.0 }
 {
@@ -53,8 +57,11 @@ pub fn join(sorts: &mut SortInterner, lhs: SortId, rhs: SortId) -> Result<Option
 // Join itself needs it: the domain of a join is the meet of the two domains.
 #[cycle(join_meet)]
 pub fn meet(sorts: &mut SortInterner, lhs: SortId, rhs: SortId) -> Result<Option<SortId>, NoRoom>
-    requires { Asked sorts.old.words.now sorts.old.counts.sorts sorts.old.counts.entries lhs.0 rhs.0 }
+    requires asked { Asked sorts.old.words.now sorts.old.counts.sorts sorts.old.counts.entries lhs.0 rhs.0 }
+    requires indexed { Indexed sorts.old.words.now sorts.old.counts.sorts sorts.old.index.now }
     ensures same_reference { sorts.new.words.ghost_name ≡ sorts.old.words.ghost_name }
+    ensures same_index { sorts.new.index.ghost_name ≡ sorts.old.index.ghost_name }
+    ensures indexed { Indexed sorts.new.words.now sorts.new.counts.sorts sorts.new.index.now }
     ensures left { left_at sorts.new.words.now sorts.new.counts result
         ≡ bound_at false sorts.old.words.now sorts.old.counts.sorts sorts.old.counts.entries lhs.0 rhs.0 }
 {
@@ -70,8 +77,11 @@ fn against(
     lhs: SortId,
     rhs: SortId,
 ) -> Result<Option<SortId>, NoRoom>
-    requires { Asked sorts.old.words.now sorts.old.counts.sorts sorts.old.counts.entries lhs.0 rhs.0 }
+    requires asked { Asked sorts.old.words.now sorts.old.counts.sorts sorts.old.counts.entries lhs.0 rhs.0 }
+    requires indexed { Indexed sorts.old.words.now sorts.old.counts.sorts sorts.old.index.now }
     ensures same_reference { sorts.new.words.ghost_name ≡ sorts.old.words.ghost_name }
+    ensures same_index { sorts.new.index.ghost_name ≡ sorts.old.index.ghost_name }
+    ensures indexed { Indexed sorts.new.words.now sorts.new.counts.sorts sorts.new.index.now }
     ensures left { left_at sorts.new.words.now sorts.new.counts result
         ≡ bound_at (not up) sorts.old.words.now sorts.old.counts.sorts sorts.old.counts.entries lhs.0 rhs.0 }
 {
@@ -91,8 +101,11 @@ pub fn bound(
     lhs: SortId,
     rhs: SortId,
 ) -> Result<Option<SortId>, NoRoom>
-    requires { Asked sorts.old.words.now sorts.old.counts.sorts sorts.old.counts.entries lhs.0 rhs.0 }
+    requires asked { Asked sorts.old.words.now sorts.old.counts.sorts sorts.old.counts.entries lhs.0 rhs.0 }
+    requires indexed { Indexed sorts.old.words.now sorts.old.counts.sorts sorts.old.index.now }
     ensures same_reference { sorts.new.words.ghost_name ≡ sorts.old.words.ghost_name }
+    ensures same_index { sorts.new.index.ghost_name ≡ sorts.old.index.ghost_name }
+    ensures indexed { Indexed sorts.new.words.now sorts.new.counts.sorts sorts.new.index.now }
     ensures left { left_at sorts.new.words.now sorts.new.counts result
         ≡ bound_at up sorts.old.words.now sorts.old.counts.sorts sorts.old.counts.entries lhs.0 rhs.0 }
 {

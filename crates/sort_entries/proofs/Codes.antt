@@ -11,8 +11,8 @@ use Rattle.resolved_sort.specs.Interning.{make}
 use Rattle.resolved_sort.specs.Storage.{sorts_of}
 use Rattle.resolved_sort.specs.Checks.{Tested, code_of, first_failing, pair_checks}
 use Rattle.resolved_sort.specs.Entries.{tree_at, code_answered, refused_or}
-use Rattle.resolved_sort.specs.Entries.{Stored, stored, sorts_left, sorts_left_by, compared, measured, materialized}
-use Rattle.resolved_sort.specs.Entries.{bounded}
+use Rattle.resolved_sort.specs.Entries.{Stored, stored, compared, measured, materialized}
+use Rattle.resolved_sort.specs.JoinMeet.{bound_checks, sorts_left, sorts_left_by, bounded}
 use Rattle.sort_entries.specs.Codes.{room_code}
 
 answered_by : {A : Type 0} (x : Tested) (a : A) → code_answered (refused_or x Err (Ok a)) ≡ refused_or x code_of 0
@@ -20,18 +20,18 @@ unfolding code_answered
 answered_by (Ok u) a = refl
 answered_by (Err r) a = refl
 
-left_code : (ws : List ℕ) (n e : ℕ) (r : Stored) (j : Joined) → code_answered (sorts_left_by ws n e r j).answer ≡ room_code j
+left_code : (ws ix : List ℕ) (n e : ℕ) (r : Stored) (j : Joined) → code_answered (sorts_left_by ws ix n e r j).answer ≡ room_code j
 unfolding sorts_left_by code_answered code_of
-left_code ws n e r (At s k) = refl
-left_code ws n e r (Nothing k) = refl
-left_code ws n e r Full = refl
+left_code ws ix n e r (At s k) = refl
+left_code ws ix n e r (Nothing k) = refl
+left_code ws ix n e r Full = refl
 
-bounded_by : (x : Tested) (ws : List ℕ) (n e : ℕ) (r : Stored)
-    → code_answered (refused_or x (λ c. sorts_left ws (Err c)) (sorts_left_by ws n e r r.answer)).answer ≡
+bounded_by : (x : Tested) (ws ix : List ℕ) (n e : ℕ) (r : Stored)
+    → code_answered (refused_or x (λ c. sorts_left ws ix (Err c)) (sorts_left_by ws ix n e r r.answer)).answer ≡
     refused_or x code_of (room_code r.answer)
 unfolding code_answered
-bounded_by (Ok u) ws n e r = left_code ws n e r r.answer
-bounded_by (Err c) ws n e r = refl
+bounded_by (Ok u) ws ix n e r = left_code ws ix n e r r.answer
+bounded_by (Err c) ws ix n e r = refl
 
 module _ (ws : List ℕ) (n e a b : ℕ) where
   pub code_of_compared : code_answered (compared ws n e a b) ≡ refused_or (first_failing (pair_checks ws n e a b)) code_of 0
@@ -46,8 +46,8 @@ module _ (ws : List ℕ) (n e a b : ℕ) where
   unfolding materialized
   code_of_materialized = answered_by (first_failing (pair_checks ws n e a b)) _
 
-  pub code_of_bounded : (up : Bool) → code_answered (bounded up ws n e a b).answer
-      ≡ refused_or (first_failing (pair_checks ws n e a b)) code_of
+  pub code_of_bounded : (up : Bool) (ix : List ℕ) → code_answered (bounded up ws ix n e a b).answer
+      ≡ refused_or (first_failing (bound_checks ws ix n e a b)) code_of
       (room_code (stored ws n e (make up (tree_at ws n a) (tree_at ws n b) (sorts_of ws n e))).answer)
   unfolding bounded
-  code_of_bounded up = bounded_by (first_failing (pair_checks ws n e a b)) ws n e _
+  code_of_bounded up ix = bounded_by (first_failing (bound_checks ws ix n e a b)) ws ix n e _

@@ -1,11 +1,10 @@
 -- The first failing check, as the tests of an entry find it one after another, and what it means that none fails.
 -- Assumes nothing.
-use mathlib.Core.Path.{◌≡◌, refl, sym, ◌∙◌, ap, subst}
+use mathlib.Core.Path.{◌≡◌, refl, sym, ◌∙◌, ap, ap₂, subst}
 use mathlib.Core.Bool.{Bool, true, ◌&&◌, and-eq-true_iff}
-use mathlib.Core.List.{List, [], ◌∷◌}
+use mathlib.Core.List.{List, [], ◌∷◌, ◌++◌}
 use Prim.Native.Nat.{ℕ, ◌-◌, ◌*◌, ◌<◌, ◌≤◌}
-use native.Mathlib.Omega.{arith}
-use lib.ListN.{length}
+use lib.ListN.{length, replicate}
 use lib.Dec.{leb, ltb}
 use borrow.Author.Tests.{ltb-true, leb-true, lt-ltb, le-ltb, le-leb, lt-leb}
 use Rattle.resolved_sort.specs.declared.Refusal.TheVariants.{NotInList, TooShort}
@@ -20,7 +19,9 @@ use Rattle.resolved_sort.specs.Tree.{Tree}
 use Rattle.resolved_sort.specs.Interning.{Outcome, made, nothing, full, make}
 use Rattle.resolved_sort.specs.Storage.{max_sorts, max_entries, full_length, entries_at, sorts_of, given_back}
 use Rattle.resolved_sort.specs.Checks.{within_lent, rows_fine, no_two_equal, in_list, at_ceiling, Check, first_failing, sort_checks, pair_checks}
-use Rattle.resolved_sort.specs.Entries.{refused_or, tree_at, Stored, stored, Bounded, SortsLeft, sorts_left, sorts_left_by, bounded}
+use Rattle.resolved_sort.specs.Entries.{refused_or, tree_at, Stored, stored}
+use Rattle.resolved_sort.specs.JoinMeet.{bound_checks, Bounded, sorts_left, sorts_left_by, bounded}
+use Rattle.resolved_sort.specs.Index.{slots, index_long}
 use Rattle.resolved_sort.specs.Rows.{Checked, left_at}
 use Rattle.resolved_sort.specs.Bounds.{Asked, bound_at}
 use Rattle.resolved_sort.proofs.FirstFailing.{first_fails, first_passes, append_fails, append_passes, cons_passes}
@@ -30,7 +31,6 @@ use Rattle.resolved_sort.specs.Growing.{SortsKept, InTree}
 use Rattle.resolved_sort.proofs.Kept.{make_kept}
 use Rattle.resolved_sort.proofs.Stored.{look_whole}
 use Rattle.resolved_sort.proofs.GivenBack.{made_is_given_back}
-use Rattle.resolved_sort.proofs.Unchanged.{length_after}
 use Rattle.sort_entries.specs.Inner.Kept.{pair_tested, kept_or_given_back}
 
 module _ (ws : List ℕ) (n e a b : ℕ) (x : first_failing (pair_checks ws n e a b) ≡ Ok tt) where
@@ -114,6 +114,37 @@ module _ (ws : List ℕ) (n e a b : ℕ) where
           pub list_checked : Checked ws n e
           list_checked = (sorts_asked ws n e a b none_failed).checked
 
+-- checks one after another: where all pass, the first of them do
+first_pass : (xs ys : List Check) (o : Tested) → first_failing xs ≡ o → first_failing (xs ++ ys) ≡ Ok tt → o ≡ Ok tt
+first_pass xs ys (Ok u) q f = refl
+first_pass xs ys (Err c) q f = let e : ◌≡◌ {A = Tested} (Err c) (Ok tt) = sym (append_fails xs ys c q) ∙ f in no_confusion cc
+
+-- the check of the index, after those of the pair
+module _ (ws ix : List ℕ) (n e a b : ℕ) where
+  abbrev index_check : Check
+  index_check = record { refusal = TooShort; passes = index_long ix }
+
+  pub pair_passes : first_failing (bound_checks ws ix n e a b) ≡ Ok tt → first_failing (pair_checks ws n e a b) ≡ Ok tt
+  unfolding bound_checks
+  pair_passes f = first_pass (pair_checks ws n e a b) (index_check ∷ []) (first_failing (pair_checks ws n e a b)) refl f
+
+  pair_fails : (c : Refusal) → first_failing (pair_checks ws n e a b) ≡ Err c → first_failing (bound_checks ws ix n e a b) ≡ Err c
+  unfolding bound_checks
+  pair_fails c q = append_fails (pair_checks ws n e a b) (index_check ∷ []) c q
+
+  module _ (q : first_failing (pair_checks ws n e a b) ≡ Ok tt) where
+    index_fails : length ix < slots → first_failing (bound_checks ws ix n e a b) ≡ Err TooShort
+    unfolding bound_checks index_long
+    index_fails h =
+        append_passes (pair_checks ws n e a b) (index_check ∷ []) q
+        ∙ first_fails index_check [] (lt-leb slots (length ix) h)
+
+    index_passes : slots ≤ length ix → first_failing (bound_checks ws ix n e a b) ≡ Ok tt
+    unfolding bound_checks index_long first_failing
+    index_passes h =
+        append_passes (pair_checks ws n e a b) (index_check ∷ []) q
+        ∙ first_passes index_check [] (le-leb slots (length ix) h)
+
 -- what the checks of an entry found
 module _ (ws : List ℕ) (n e a b : ℕ) where
   pub refusal_is : (r : Refusal) → Err r ≡ pair_tested ws n e a b → first_failing (pair_checks ws n e a b) ≡ Err r
@@ -173,61 +204,51 @@ module _ (up : Bool) (ws : List ℕ) (n e a b : ℕ) (k : Asked ws n e a b) wher
   given_back_left (nothing S) h = made_is_given_back ws n e k.checked S h.0
   given_back_left (full S) h = made_is_given_back ws n e k.checked S h.0
 
-  length_left : (O : Outcome Tree) → SortsKept ws n e InTree (sorts_of ws n e) O → length (stored ws n e O).words ≡ length ws
-  unfolding SortsKept stored
-  length_left (made v S) h = length_after ws n e k.checked S h.0
-  length_left (nothing S) h = length_after ws n e k.checked S h.0
-  length_left (full S) h = length_after ws n e k.checked S h.0
-
-  words_left : (vs : List ℕ) (l : Counts) (r : Result (Option SortId) NoRoom) → (left_at vs l r).words ≡ vs
-  words_left vs l (Ok (Some id)) = refl
-  words_left vs l (Ok None) = refl
-  words_left vs l (Err x) = refl
-
-  pub long_left : (vs : List ℕ) (l : Counts) (r : Result (Option SortId) NoRoom) → left_at vs l r ≡ bound_at up ws n e a b
-      → full_length ≤ length vs
-  unfolding bound_at
-  long_left vs l r q =
-      let same : length vs ≡ length ws =
-      ap length (sym (words_left vs l r) ∙ ap (λ s. s.words) q) ∙ length_left outcome outcome_kept in
-      omega (arith, same, k.checked.long)
-
   abbrev given : Counts
   given = record { sorts = n; entries = e }
 
-  kept_left : (vs : List ℕ) (l : Counts) (r : Result (Option SortId) NoRoom) (s : Stored) → left_at vs l r ≡ s
-      → given_back n e s.words ≡ given_back n e ws → kept_or_given_back vs l given r ≡ sorts_left_by ws n e s s.answer
-  unfolding kept_or_given_back sorts_left_by
-  kept_left vs l (Ok (Some id)) s q g = ap (λ s. sorts_left_by ws n e s s.answer) q
-  kept_left vs l (Ok None) s q g = ap (λ s. sorts_left_by ws n e s s.answer) q
-  kept_left vs l (Err x) s q g =
-      ap (λ us. sorts_left us (Err SortsFull)) (ap (λ s. given_back n e s.words) q ∙ g)
-      ∙ ap (λ s. sorts_left_by ws n e s s.answer) q
+  module _ (ix jx : List ℕ) (same : length jx ≡ length ix) where
+    kept_left : (vs : List ℕ) (l : Counts) (r : Result (Option SortId) NoRoom) (s : Stored) → left_at vs l r ≡ s
+        → given_back n e s.words ≡ given_back n e ws → kept_or_given_back vs jx l given r ≡ sorts_left_by ws ix n e s s.answer
+    unfolding kept_or_given_back sorts_left_by
+    kept_left vs l (Ok (Some id)) s q g =
+        ap (λ m. sorts_left vs (replicate m 0) (Ok (Some id, l))) same ∙ ap (λ s. sorts_left_by ws ix n e s s.answer) q
+    kept_left vs l (Ok None) s q g =
+        ap (λ m. sorts_left vs (replicate m 0) (Ok (None, l))) same ∙ ap (λ s. sorts_left_by ws ix n e s s.answer) q
+    kept_left vs l (Err x) s q g =
+        ap₂ (λ us m. sorts_left us (replicate m 0) (Err SortsFull)) (ap (λ s. given_back n e s.words) q ∙ g) same
+        ∙ ap (λ s. sorts_left_by ws ix n e s s.answer) q
 
-  pub bound_answered : (vs : List ℕ) (l : Counts) (r : Result (Option SortId) NoRoom) → left_at vs l r ≡ bound_at up ws n e a b
-      → (us : List ℕ) (x : Bounded) → sorts_left us x ≡ kept_or_given_back vs l given r
-      → first_failing (pair_checks ws n e a b) ≡ Ok tt → sorts_left us x ≡ bounded up ws n e a b
-  unfolding bound_at bounded
-  bound_answered vs l r q us x g f =
-      g ∙ (kept_left vs l r (stored ws n e outcome) q (given_back_left outcome outcome_kept) ∙ rw f)
+    pub bound_answered : (vs : List ℕ) (l : Counts) (r : Result (Option SortId) NoRoom) → left_at vs l r ≡ bound_at up ws n e a b
+        → (us ux : List ℕ) (x : Bounded) → sorts_left us ux x ≡ kept_or_given_back vs jx l given r
+        → first_failing (bound_checks ws ix n e a b) ≡ Ok tt → sorts_left us ux x ≡ bounded up ws ix n e a b
+    unfolding bound_at bounded
+    bound_answered vs l r q us ux x g f =
+        g ∙ (kept_left vs l r (stored ws n e outcome) q (given_back_left outcome outcome_kept) ∙ rw f)
 
 -- as the code of both meets them, with the counts that its checks answered
-module _ (up : Bool) (ws : List ℕ) (n e a b : ℕ) where
-  pub bound_refused : (r : Refusal) → Err r ≡ pair_tested ws n e a b → (x : Bounded) → x ≡ Err r
-      → sorts_left ws x ≡ bounded up ws n e a b
+module _ (up : Bool) (ws ix : List ℕ) (n e a b : ℕ) where
+  refused : (r : Refusal) → first_failing (bound_checks ws ix n e a b) ≡ Err r → sorts_left ws ix (Err r) ≡ bounded up ws ix n e a b
   unfolding bounded
-  bound_refused r h x q = rw (q, refusal_is ws n e a b r h)
+  refused r f = rw f
+
+  pub bound_refused : (r : Refusal) → Err r ≡ pair_tested ws n e a b → (x : Bounded) → x ≡ Err r
+      → sorts_left ws ix x ≡ bounded up ws ix n e a b
+  bound_refused r h x q =
+      ap (sorts_left ws ix) q ∙ refused r (pair_fails ws ix n e a b r (refusal_is ws n e a b r h))
 
   module _ (k : Counts) (h : Ok k ≡ pair_tested ws n e a b) where
-    pub bound_answered_with : (vs : List ℕ) (l : Counts) (r : Result (Option SortId) NoRoom)
-        → left_at vs l r ≡ bound_at up ws k.sorts k.entries a b
-        → (us : List ℕ) (x : Bounded) → sorts_left us x ≡ kept_or_given_back vs l k r → sorts_left us x ≡ bounded up ws n e a b
-    bound_answered_with vs l r q us x g =
-        bound_answered up ws n e a b (asked_given ws n e a b k h) vs l r
-        (q ∙ sym (ap (λ (c : Counts). bound_at up ws c.sorts c.entries a b) (counted ws n e a b k h))) us x
-        (g ∙ sym (ap (λ (c : Counts). kept_or_given_back vs l c r) (counted ws n e a b k h)))
-        (none_fails ws n e a b k h)
+    pub index_short : length ix < slots → sorts_left ws ix (Err TooShort) ≡ bounded up ws ix n e a b
+    index_short s = refused TooShort (index_fails ws ix n e a b (none_fails ws n e a b k h) s)
 
--- what the lent words end as is what the interner held last
-pub left_in : {us vs : List ℕ} {x : Bounded} {s : SortsLeft} → vs ≡ us → sorts_left us x ≡ s → sorts_left vs x ≡ s
-left_in {x = x} e f = ap (λ ws. sorts_left ws x) e ∙ f
+    -- the lent words are then what the interner held
+    pub bound_answered_with : slots ≤ length ix → (vs : List ℕ) (l : Counts) (r : Result (Option SortId) NoRoom)
+        → left_at vs l r ≡ bound_at up ws k.sorts k.entries a b
+        → (ls jx us ux : List ℕ) (x : Bounded) → sorts_left us ux x ≡ kept_or_given_back ls jx l k r
+        → ls ≡ vs → length jx ≡ length ix → sorts_left us ux x ≡ bounded up ws ix n e a b
+    bound_answered_with s vs l r q ls jx us ux x g w same =
+        bound_answered up ws n e a b (asked_given ws n e a b k h) ix jx same vs l r
+        (q ∙ sym (ap (λ (c : Counts). bound_at up ws c.sorts c.entries a b) (counted ws n e a b k h))) us ux x
+        (g ∙ ap (λ us. kept_or_given_back us jx l k r) w
+        ∙ sym (ap (λ (c : Counts). kept_or_given_back vs jx l c r) (counted ws n e a b k h)))
+        (index_passes ws ix n e a b (none_fails ws n e a b k h) s)

@@ -5,3 +5,4 @@ pub mod Answered
 pub mod Packed
 pub mod Fields
 pub mod Clauses
+pub mod PutBack

@@ -6,7 +6,7 @@ use mathlib.Core.Bool.{Bool, true, false}
 use mathlib.Core.List.{List, [], ◌∷◌}
 use mathlib.Core.Option.{Option, none, some}
 use mathlib.Core.Logic.{inl, inr}
-use Prim.Native.Nat.{ℕ}
+use Prim.Native.Nat.{ℕ, ◌%◌}
 use native.Mathlib.Omega.{arith}
 use native.Mathlib.Nat.{min-le_left}
 use lib.ListN.{get_or}
@@ -22,11 +22,12 @@ use Rattle.resolved_sort.specs.Tree.{Tree}
 use Rattle.resolved_sort.specs.Order.{ordering, Steps as StepsOf, steps_of, map₁, distance, most_steps, materializable}
 use Rattle.resolved_sort.specs.Exact.{exact, stopped}
 use Rattle.resolved_sort.specs.Checks.{Tested, first_failing, pair_checks, Numbered}
-use Rattle.resolved_sort.specs.Entries.{tree_at, refused_or, Bounded}
-use Rattle.resolved_sort.specs.Entries.{compared, measured, materialized, bounded}
+use Rattle.resolved_sort.specs.Entries.{tree_at, refused_or, code_answered, compared, measured, materialized}
+use Rattle.resolved_sort.specs.JoinMeet.{Bounded, bounded}
 use Rattle.resolved_sort.proofs.Distance.{distance_stops_once}
-use Rattle.entry_answers.specs.Packing.{FitFields, AnswerWithin}
+use Rattle.entry_answers.specs.Packing.{packed, in_fields, FitFields, AnswerWithin}
 use Rattle.entry_answers.proofs.Packing.{Fit, answers_told}
+use Rattle.entry_answers.proofs.Refusals.{code_in_byte}
 use Rattle.entry_answers.proofs.SortsLeft.{counts_within}
 use Rattle.entry_answers.specs.Packing.{yes_values}
 use Rattle.sort_entries.specs.Codes.{order_code, order_values, distance_values, bound_values}
@@ -34,7 +35,7 @@ use Rattle.sort_entries.specs.Codes.{ComparedWithin, StepsWithin, MeasuredWithin
 use Rattle.sort_entries.specs.Packed.{compared_widths, measured_widths, materialized_widths, bounded_widths}
 use Rattle.sort_entries.specs.Packed.{pack_compared, pack_measured, pack_materialized, pack_bounded, packed_sorts, pack_sorts_left}
 use Rattle.sort_entries.specs.Answered.{BoundSays}
-use Rattle.sort_entries.proofs.Answered.{refused_by_number, entry_is_bound}
+use Rattle.sort_entries.proofs.Answered.{refused_by_number, bound_by_number, entry_is_bound}
 
 -- a distance stops at 255
 steps_within : (x : Option StepsOf) → StepsWithin (steps_of (map₁ stopped x))
@@ -44,11 +45,11 @@ steps_within (some d) = (min-le_left most_steps d.head, min-le_left most_steps d
 distance_within : (s t : Tree) → StepsWithin (steps_of (distance true s t))
 distance_within s t = subst (λ x. StepsWithin (steps_of x)) (sym (distance_stops_once true s t)) (steps_within (exact true s t))
 
-bound_within : (up : Bool) (ws : List ℕ) (n e a b : ℕ) (vs : List ℕ) (r : Bounded) → BoundSays up ws n e a b vs r → BoundedWithin r
-bound_within up ws n e a b vs (Err r) (inl h) = inl (refused_by_number ws n e a b r h.0.first)
-bound_within up ws n e a b vs (Err r) (inr h) = inr h.1
-bound_within up ws n e a b vs (Ok (Rust.Some s, k)) h = let w = counts_within vs k.sorts k.entries h.grew.again in (h.listed, w.0, w.1)
-bound_within up ws n e a b vs (Ok (Rust.None, k)) h = counts_within vs k.sorts k.entries h.grew.again
+bound_within : (up : Bool) (ws ix : List ℕ) (n e a b : ℕ) (vs jx : List ℕ) (r : Bounded) → BoundSays up ws ix n e a b vs jx r → BoundedWithin r
+bound_within up ws ix n e a b vs jx (Err r) (inl h) = inl (bound_by_number ws ix n e a b r h.0.first)
+bound_within up ws ix n e a b vs jx (Err r) (inr h) = inr h.1
+bound_within up ws ix n e a b vs jx (Ok (Rust.Some s, k)) h = let w = counts_within vs k.sorts k.entries h.grew.again in (h.listed, w.0, w.1)
+bound_within up ws ix n e a b vs jx (Ok (Rust.None, k)) h = counts_within vs k.sorts k.entries h.grew.again
 
 -- whatever the entries are given
 module _ (ws : List ℕ) (n e a b : ℕ) where
@@ -74,9 +75,10 @@ module _ (ws : List ℕ) (n e a b : ℕ) where
   unfolding materialized
   materialized_within = answered_within (λ x. Unit {0}) (materializable (tree_at ws n a) (tree_at ws n b)) tt
 
-  pub bounded_within : (up : Bool) → BoundedWithin (bounded up ws n e a b).answer
-  bounded_within up =
-      bound_within up ws n e a b (bounded up ws n e a b).words (bounded up ws n e a b).answer (entry_is_bound up ws n e a b _ _ refl)
+  pub bounded_within : (up : Bool) (ix : List ℕ) → BoundedWithin (bounded up ws ix n e a b).answer
+  bounded_within up ix =
+      bound_within up ws ix n e a b (bounded up ws ix n e a b).words (bounded up ws ix n e a b).index (bounded up ws ix n e a b).answer
+      (entry_is_bound up ws ix n e a b _ _ _ refl)
 
 -- numbers within their bounds fit their fields
 order_fits : (o : Rust.Option Ordering) → FitFields compared_widths (order_values o)
@@ -142,6 +144,13 @@ bound_told (Rust.Some s, k) (Rust.None, l) v = absurd (omega (arith, v 0))
 bound_told (Rust.None, k) (Rust.Some t, l) v = absurd (omega (arith, v 0))
 bound_told (Rust.None, k) (Rust.None, l) v = λ i. (Rust.None, counts_told (v 2) (v 3) i)
 
+-- the lowest 8 bits are document 01's number of the answer
+pub bounded_code : (r : Bounded) → pack_bounded r % 256 ≡ code_answered r
+unfolding packed in_fields code_answered
+bounded_code (Err r) = omega (arith, (code_in_byte r).1)
+bounded_code (Ok (Rust.Some s, k)) = omega arith
+bounded_code (Ok (Rust.None, k)) = omega arith
+
 -- the packed answers tell the answers apart
 pub compared_tells : (r s : Result (Rust.Option Ordering) Refusal) → ComparedWithin r → ComparedWithin s → pack_compared r ≡ pack_compared s → r ≡ s
 compared_tells r s x y p =
@@ -156,11 +165,13 @@ materialized_tells r s x y p = answers_told materialized_widths yes_values yes_t
 pub bounded_tells : (r s : Bounded) → BoundedWithin r → BoundedWithin s → pack_bounded r ≡ pack_bounded s → r ≡ s
 bounded_tells r s x y p = answers_told bounded_widths bound_values bound_told r s (bounded_fits r x) (bounded_fits s y) p
 
--- The same of the exports join and meet: whatever answer their number is read as, it and the words left say what the entry's do.
-pub export_is_bound : (up : Bool) (ws : List ℕ) (n e a b : ℕ) (vs : List ℕ) (p : ℕ) → packed_sorts vs p ≡ pack_sorts_left (bounded up ws n e a b)
-    → (r : Bounded) → BoundedWithin r → pack_bounded r ≡ p → BoundSays up ws n e a b vs r
-export_is_bound up ws n e a b vs p q r w x =
-    let words : vs ≡ (bounded up ws n e a b).words = ap (λ z. z.words) q in
-    let answer : r ≡ (bounded up ws n e a b).answer =
-    bounded_tells r (bounded up ws n e a b).answer w (bounded_within ws n e a b up) (x ∙ ap (λ z. z.result) q) in
-    entry_is_bound up ws n e a b vs r (λ i. record { words = words i; answer = answer i })
+-- The same of the exports join and meet: whatever answer their number is read as, it and the words and the index left say what the entry's do.
+pub export_is_bound : (up : Bool) (ws ix : List ℕ) (n e a b : ℕ) (vs jx : List ℕ) (p : ℕ)
+    → packed_sorts vs jx p ≡ pack_sorts_left (bounded up ws ix n e a b)
+    → (r : Bounded) → BoundedWithin r → pack_bounded r ≡ p → BoundSays up ws ix n e a b vs jx r
+export_is_bound up ws ix n e a b vs jx p q r w x =
+    let words : vs ≡ (bounded up ws ix n e a b).words = ap (λ z. z.words) q in
+    let index : jx ≡ (bounded up ws ix n e a b).index = ap (λ z. z.index) q in
+    let answer : r ≡ (bounded up ws ix n e a b).answer =
+    bounded_tells r (bounded up ws ix n e a b).answer w (bounded_within ws n e a b up ix) (x ∙ ap (λ z. z.result) q) in
+    entry_is_bound up ws ix n e a b vs jx r (λ i. record { words = words i; index = index i; answer = answer i })

@@ -13,7 +13,7 @@ use Rattle.resolved_sort.specs.declared.Steps.{Steps}
 use Rattle.resolved_sort.specs.Order.{most_steps}
 use Rattle.resolved_sort.specs.Storage.{max_sorts, max_entries}
 use Rattle.resolved_sort.specs.Checks.{Numbered}
-use Rattle.resolved_sort.specs.Entries.{Bounded}
+use Rattle.resolved_sort.specs.JoinMeet.{Bounded}
 
 -- 0 unrelated, 1 equal, 2 the first below the second, 3 above it
 abbrev pub order_code : Option Ordering → ℕ

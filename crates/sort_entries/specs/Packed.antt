@@ -2,7 +2,7 @@
 -- values of an answer. A refusal has nothing above the code.
 use Rattle.std.specs.Prelude.{Bool, List, [], ◌∷◌, ℕ, Option, Result}
 use Rattle.entry_answers.specs.Packing.{packed}
-use Rattle.resolved_sort.specs.Entries.{Bounded, SortsLeft}
+use Rattle.resolved_sort.specs.JoinMeet.{Bounded, SortsLeft}
 use Rattle.std.specs.declared.cmp.Ordering.{Ordering}
 use Rattle.resolved_sort.specs.declared.Refusal.{Refusal}
 use Rattle.resolved_sort.specs.declared.Steps.{Steps}
@@ -37,13 +37,14 @@ bounded_widths = 8 ∷ 16 ∷ 16 ∷ 16 ∷ []
 abbrev pub pack_bounded : Bounded → ℕ
 pack_bounded r = packed bounded_widths (coded_bounded r)
 
--- the storage at exit, and the packed answer
+-- the storage and the index at exit, and the packed answer
 pub record PackedSorts : Type 0 where
   pub words : List ℕ
+  pub index : List ℕ
   pub result : ℕ
 
-abbrev pub packed_sorts : List ℕ → ℕ → PackedSorts
-packed_sorts ws r = record { words = ws; result = r }
+abbrev pub packed_sorts : List ℕ → List ℕ → ℕ → PackedSorts
+packed_sorts ws ix r = record { words = ws; index = ix; result = r }
 
 abbrev pub pack_sorts_left : SortsLeft → PackedSorts
-pack_sorts_left l = packed_sorts l.words (pack_bounded l.answer)
+pack_sorts_left l = packed_sorts l.words l.index (pack_bounded l.answer)

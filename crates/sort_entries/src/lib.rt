@@ -1,18 +1,20 @@
-// The entries of the sorts layer. Each takes the lent sort storage and its counts, tests them itself, and has no
-// `requires`: whatever a caller hands in, the answer and the storage at exit are the defined ones.
+// The entries of the sorts layer. Each takes the lent sort storage and its counts, join and meet an index to find sorts by
+// too, tests them itself, and has no `requires`: whatever a caller hands in, the answer, the storage and the index at exit
+// are the defined ones.
 #![tactic(auto)]
 
 ghost use Rattle.std.specs.Prelude.{◌≡◌, true, false, Ok, Err, MatchResult, ◌+◌, ◌*◌, ◌<◌, ◌≤◌, length};
 ghost use Rattle.resolved_sort.specs.Storage.{max_sorts, max_entries, full_length};
-ghost use Rattle.resolved_sort.specs.Entries.{compared, measured, materialized, bounded, sorts_left};
+ghost use Rattle.resolved_sort.specs.Entries.{compared, measured, materialized};
+ghost use Rattle.resolved_sort.specs.JoinMeet.{bounded, sorts_left};
 ghost use Rattle.sort_entries.specs.Inner.Kept.{pair_tested, kept_or_given_back};
 ghost use Rattle.sort_entries.specs.Packed.{pack_compared, pack_measured, pack_materialized, pack_bounded};
 ghost use Rattle.sort_entries.specs.Packed.{packed_sorts, pack_sorts_left};
 
 use entry_answers::{pack, pack_yes};
-use resolved_sort::{Counts, NoRoom, Refusal, SORT_WORDS, SortId, Steps};
+use resolved_sort::{Counts, NoRoom, Refusal, SLOTS, SORT_WORDS, SortId, Steps};
 use sort_checks::test_sorts;
-use sort_interner::{SortInterner, Sorts};
+use sort_interner::{SortInterner, Sorts, clear_index, fill_index, give_back};
 use std::cmp::Ordering;
 use words::{BIT_8, BIT_16, BIT_24, BIT_32, BIT_48};
 
@@ -95,61 +97,72 @@ pub fn is_materializable(
     Ok(sort_order::is_materializable(&sorts, from, to))
 }
 
-// What an entry answers after join or meet, which began with these counts: an answered one keeps what was made, one
-// that ran out of room gives it back.
+// What an entry answers after join or meet, which began with the counts given and left these: an answered one keeps what
+// was made, one that ran out of room gives it back. The index is zero then.
 #[tactic(auto, unfolding(crate::specs::Inner::Kept::kept_or_given_back))]
 fn kept_or_given_back(
-    interner: &mut SortInterner,
-    counts: Counts,
+    sorts: &mut [u16],
+    index: &mut [u16],
+    given: Counts,
+    left: Counts,
     bound: Result<Option<SortId>, NoRoom>,
 ) -> Result<(Option<SortId>, Counts), Refusal>
-    requires { (counts.sorts ≤ max_sorts)
-        × (counts.entries ≤ max_entries)
-        × (full_length ≤ length interner.old.words.now) }
-    ensures same_reference { interner.new.words.ghost_name ≡ interner.old.words.ghost_name }
-    ensures left { sorts_left interner.new.words.now result
-        ≡ kept_or_given_back interner.old.words.now interner.old.counts counts bound }
+    requires { (given.sorts ≤ max_sorts)
+        × (given.entries ≤ max_entries)
+        × (full_length ≤ length sorts.old) }
+    ensures { sorts_left sorts.new index.new result
+        ≡ kept_or_given_back sorts.old index.old left given bound }
 {
+    clear_index(index);
     if bound.is_err() {
-        interner.give_back(counts);
+        give_back(sorts, given.sorts as usize, given.entries as usize);
     }
-    Ok((bound?, interner.counts))
+    Ok((bound?, left))
 }
 
 // Join (up) or meet of two sorts, as an entry.
+// kept: the index tested here and not with the pair, since only an entry that makes sorts is lent one.
 fn bound(
     sorts: &mut [u16],
     sort_count: usize,
     entry_count: usize,
+    index: &mut [u16],
     up: bool,
     lhs: SortId,
     rhs: SortId,
 ) -> Result<(Option<SortId>, Counts), Refusal>
-    ensures { sorts_left sorts.new result
-        ≡ bounded up sorts.old sort_count entry_count lhs.0 rhs.0 }
+    ensures { sorts_left sorts.new index.new result
+        ≡ bounded up sorts.old index.old sort_count entry_count lhs.0 rhs.0 }
 {
     let counts = test_pair(sorts, sort_count, entry_count, lhs, rhs)?.counts;
+    if index.len() < SLOTS {
+        return Err(Refusal::TooShort);
+    }
+    fill_index(sorts, index, counts.sorts);
     let mut interner = SortInterner {
         words: sorts,
+        index,
         counts,
     };
     let bound = sort_bounds::bound(&mut interner, up, lhs, rhs);
-    kept_or_given_back(&mut interner, counts, bound)
+    let left = interner.counts;
+    kept_or_given_back(sorts, index, counts, left, bound)
 }
 
 // The least common supersort of two sorts.
-// Ruled out: the meet; an FSet for FSet and Set; sorts left behind after 15.
+// Ruled out: the meet; an FSet for FSet and Set; sorts left behind after 15, or the index filled.
 pub fn join(
     sorts: &mut [u16],
     sort_count: usize,
     entry_count: usize,
+    index: &mut [u16],
     lhs: SortId,
     rhs: SortId,
 ) -> Result<(Option<SortId>, Counts), Refusal>
-    ensures { sorts_left sorts.new result
-        ≡ bounded true sorts.old sort_count entry_count lhs.0 rhs.0 }
+    ensures { sorts_left sorts.new index.new result
+        ≡ bounded true sorts.old index.old sort_count entry_count lhs.0 rhs.0 }
 {
-    bound(sorts, sort_count, entry_count, true, lhs, rhs)
+    bound(sorts, sort_count, entry_count, index, true, lhs, rhs)
 }
 
 // The greatest common subsort of two sorts.
@@ -158,13 +171,14 @@ pub fn meet(
     sorts: &mut [u16],
     sort_count: usize,
     entry_count: usize,
+    index: &mut [u16],
     lhs: SortId,
     rhs: SortId,
 ) -> Result<(Option<SortId>, Counts), Refusal>
-    ensures { sorts_left sorts.new result
-        ≡ bounded false sorts.old sort_count entry_count lhs.0 rhs.0 }
+    ensures { sorts_left sorts.new index.new result
+        ≡ bounded false sorts.old index.old sort_count entry_count lhs.0 rhs.0 }
 {
-    bound(sorts, sort_count, entry_count, false, lhs, rhs)
+    bound(sorts, sort_count, entry_count, index, false, lhs, rhs)
 }
 
 // The values of an answer in their fields, above a code of 0.
@@ -253,13 +267,22 @@ pub extern "C" fn sort_join(
     sorts: &mut [u16],
     sort_count: usize,
     entry_count: usize,
+    index: &mut [u16],
     lhs: u16,
     rhs: u16,
 ) -> u64
-    ensures { packed_sorts sorts.new result
-        ≡ pack_sorts_left (bounded true sorts.old sort_count entry_count lhs rhs) }
+    ensures { packed_sorts sorts.new index.new result
+        ≡ pack_sorts_left (bounded true sorts.old index.old sort_count entry_count lhs rhs) }
 {
-    pack(join(sorts, sort_count, entry_count, SortId(lhs), SortId(rhs)).map(pack_bound))
+    pack(join(
+        sorts,
+        sort_count,
+        entry_count,
+        index,
+        SortId(lhs),
+        SortId(rhs),
+    )
+    .map(pack_bound))
 }
 
 #[unsafe(no_mangle)]
@@ -267,13 +290,22 @@ pub extern "C" fn sort_meet(
     sorts: &mut [u16],
     sort_count: usize,
     entry_count: usize,
+    index: &mut [u16],
     lhs: u16,
     rhs: u16,
 ) -> u64
-    ensures { packed_sorts sorts.new result
-        ≡ pack_sorts_left (bounded false sorts.old sort_count entry_count lhs rhs) }
+    ensures { packed_sorts sorts.new index.new result
+        ≡ pack_sorts_left (bounded false sorts.old index.old sort_count entry_count lhs rhs) }
 {
-    pack(meet(sorts, sort_count, entry_count, SortId(lhs), SortId(rhs)).map(pack_bound))
+    pack(meet(
+        sorts,
+        sort_count,
+        entry_count,
+        index,
+        SortId(lhs),
+        SortId(rhs),
+    )
+    .map(pack_bound))
 }
 
 // The orders in bits 8 to 15 of a packed answer: 0 unrelated, 1 equal, 2 below, 3 above.

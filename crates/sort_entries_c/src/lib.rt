@@ -4,7 +4,8 @@
 #![tactic(auto)]
 
 ghost use Rattle.std.specs.Prelude.{◌≡◌, true, false};
-ghost use Rattle.resolved_sort.specs.Entries.{compared, measured, materialized, bounded};
+ghost use Rattle.resolved_sort.specs.Entries.{compared, measured, materialized};
+ghost use Rattle.resolved_sort.specs.JoinMeet.{bounded};
 ghost use Rattle.sort_entries.specs.Packed.{pack_compared, pack_measured, pack_materialized};
 ghost use Rattle.sort_entries.specs.Packed.{packed_sorts, pack_sorts_left};
 
@@ -52,13 +53,14 @@ pub extern "C" fn sort_join(
     sorts: &mut [u16],
     sort_count: usize,
     entry_count: usize,
+    index: &mut [u16],
     lhs: u16,
     rhs: u16,
 ) -> u64
-    ensures { packed_sorts sorts.new result
-        ≡ pack_sorts_left (bounded true sorts.old sort_count entry_count lhs rhs) }
+    ensures { packed_sorts sorts.new index.new result
+        ≡ pack_sorts_left (bounded true sorts.old index.old sort_count entry_count lhs rhs) }
 {
-    sort_entries::sort_join(sorts, sort_count, entry_count, lhs, rhs)
+    sort_entries::sort_join(sorts, sort_count, entry_count, index, lhs, rhs)
 }
 
 #[unsafe(no_mangle)]
@@ -66,11 +68,12 @@ pub extern "C" fn sort_meet(
     sorts: &mut [u16],
     sort_count: usize,
     entry_count: usize,
+    index: &mut [u16],
     lhs: u16,
     rhs: u16,
 ) -> u64
-    ensures { packed_sorts sorts.new result
-        ≡ pack_sorts_left (bounded false sorts.old sort_count entry_count lhs rhs) }
+    ensures { packed_sorts sorts.new index.new result
+        ≡ pack_sorts_left (bounded false sorts.old index.old sort_count entry_count lhs rhs) }
 {
-    sort_entries::sort_meet(sorts, sort_count, entry_count, lhs, rhs)
+    sort_entries::sort_meet(sorts, sort_count, entry_count, index, lhs, rhs)
 }

@@ -1,4 +1,4 @@
--- What is packed of an answer, and the storage that it leaves. Assumes nothing.
+-- What is packed of an answer, and the storage and the index that it leaves. Assumes nothing.
 use Rattle.std.proofs.Common.{◌∙◌, ap, rules}
 use Rattle.entry_answers.proofs.Packing.{packed_by}
 use Rattle.sort_entries.specs.Codes.{bound_values}
@@ -7,6 +7,6 @@ use Rattle.sort_entries.proofs.sort_meet.Goals as goal
 
 pub returns : goal.returns
 returns c =
-    ap (packed_sorts c.meet.new.sorts)
+    ap (packed_sorts c.meet.new.sorts c.meet.new.index)
     (c.pack.ensures ∙ packed_by bounded_widths bound_values _ _ _ c.map.ensures.cases (λ a n q. search rules))
     ∙ ap pack_sorts_left c.meet.ensures
