@@ -22,7 +22,7 @@ use Rattle.resolved_sort.proofs.Reached.{no_confusion, Reached, reached, reached
 use Rattle.sort_text.specs.declared.Unread.{Unread}
 use Rattle.sort_text.specs.declared.Unread.TheVariants.{Refused, NotASort, NoRoom}
 use Rattle.sort_text.specs.Parse.{Parsed, parsed, stuck, line}
-use Rattle.sort_text.specs.Reading.{store, ReadAnswer, read_left, read_at, stored_by, read_as_of}
+use Rattle.sort_text.specs.Reading.{store, ReadAnswer, words_left, read_at, stored_by, read_as_of}
 use Rattle.pair_line.specs.PairProgram.{good, wrong, line_of}
 use Rattle.sort_text.proofs.Suffix.{unread_end}
 use Rattle.sort_text.specs.Readable.{size}
@@ -89,7 +89,7 @@ module _ (ws : List ℕ) (n e k : ℕ) (bs : List ℕ) (b : Begun ws n e k) (few
               (omega (arith, nodes, entries_below_size t)) vs K r.words r.counted;
         }
 
-    as_stored : (vs : List ℕ) (u : SortId) (K : Counts) (O : Outcome Tree) → read_left vs (Ok (u, K)) ≡ stored_by ws n e
+    as_stored : (vs : List ℕ) (u : SortId) (K : Counts) (O : Outcome Tree) → words_left vs (Ok (u, K)) ≡ stored_by ws n e
         (stored ws n e O) (stored ws n e O).answer
         → stored_at vs (At u K) ≡ stored ws n e O
     unfolding stored_by stored
@@ -98,7 +98,7 @@ module _ (ws : List ℕ) (n e k : ℕ) (bs : List ℕ) (b : Begun ws n e k) (few
     as_stored vs u K (nothing S) q = let a : ◌≡◌ {A = ReadAnswer} (Ok (u, K)) (Err NoRoom) = ap (λ r. r.answer) q in no_confusion (cc)
     as_stored vs u K (full S) q = let a : ◌≡◌ {A = ReadAnswer} (Ok (u, K)) (Err NoRoom) = ap (λ r. r.answer) q in no_confusion (cc)
 
-    read_sort_of : (vs : List ℕ) (u : SortId) (K : Counts) → read_left vs (Ok (u, K)) ≡ read_as_of ws n e bs (parsed t cs) → ReadSort vs u K
+    read_sort_of : (vs : List ℕ) (u : SortId) (K : Counts) → words_left vs (Ok (u, K)) ≡ read_as_of ws n e bs (parsed t cs) → ReadSort vs u K
     unfolding read_as_of
     read_sort_of vs u K q =
         sort_from vs u K (store t (sorts_of ws n e)) within
@@ -106,13 +106,13 @@ module _ (ws : List ℕ) (n e k : ℕ) (bs : List ℕ) (b : Begun ws n e k) (few
         (as_stored vs u K (store t (sorts_of ws n e)) q))
 
     no_room_by : (vs : List ℕ) (O : Outcome Tree) → Makes O → Within (Is t) (size t) (entries_of t) (sorts_of ws n e) O
-        → read_left vs (Err NoRoom) ≡ stored_by ws n e (stored ws n e O) (stored ws n e O).answer → ⊥
+        → words_left vs (Err NoRoom) ≡ stored_by ws n e (stored ws n e O) (stored ws n e O).answer → ⊥
     unfolding stored_by stored Makes Within
     no_room_by vs (made v S) m w q = let a : ◌≡◌ {A = ReadAnswer} (Err NoRoom) (Ok (record { 0 = number S.trees v }, counts_of S)) = ap (λ r. r.answer) q in no_confusion (cc)
     no_room_by vs (nothing S) m w q = m
     no_room_by vs (full S) m w q = w
 
-    has_room_of : (vs : List ℕ) → read_left vs (Err NoRoom) ≡ read_as_of ws n e bs (parsed t cs) → ⊥
+    has_room_of : (vs : List ℕ) → words_left vs (Err NoRoom) ≡ read_as_of ws n e bs (parsed t cs) → ⊥
     unfolding read_as_of
     has_room_of vs q = no_room_by vs (store t (sorts_of ws n e)) (store_makes t (sorts_of ws n e)) within q
 
@@ -123,17 +123,17 @@ module _ (ws : List ℕ) (n e k : ℕ) (bs : List ℕ) (b : Begun ws n e k) (few
     stored_by_lem (full S) = refl
 
     -- nothing else is answered
-    is_stored_lem : (vs : List ℕ) (x : ReadAnswer) → read_left vs x ≡ read_as_of ws n e bs (parsed t cs) → is_stored x ≡ true
+    is_stored_lem : (vs : List ℕ) (x : ReadAnswer) → words_left vs x ≡ read_as_of ws n e bs (parsed t cs) → is_stored x ≡ true
     unfolding read_as_of
     is_stored_lem vs x q = ap (λ r. is_stored r.answer) q ∙ stored_by_lem (store t (sorts_of ws n e))
 
   -- by what the line reads as
-  sort_by : (P : Parsed) → line bs ≡ P → (vs : List ℕ) (u : SortId) (K : Counts) → read_left vs (Ok (u, K)) ≡ read_as_of ws n e bs P → ReadSort vs u K
+  sort_by : (P : Parsed) → line bs ≡ P → (vs : List ℕ) (u : SortId) (K : Counts) → words_left vs (Ok (u, K)) ≡ read_as_of ws n e bs P → ReadSort vs u K
   unfolding read_as_of
   sort_by (parsed t cs) is vs u K q = read_sort_of t cs is vs u K q
   sort_by (stuck cs) is vs u K q = let a : ◌≡◌ {A = ReadAnswer} (Ok (u, K)) (Err (NotASort (length bs - length cs))) = ap (λ r. r.answer) q in no_confusion (cc)
 
-  no_sort_by : (P : Parsed) → line bs ≡ P → (vs : List ℕ) (p : ℕ) → read_left vs (Err (NotASort p)) ≡ read_as_of ws n e bs P → line_of bs ≡ wrong (50 ∷ 48 ∷ 58 ∷ drop p bs)
+  no_sort_by : (P : Parsed) → line bs ≡ P → (vs : List ℕ) (p : ℕ) → words_left vs (Err (NotASort p)) ≡ read_as_of ws n e bs P → line_of bs ≡ wrong (50 ∷ 48 ∷ 58 ∷ drop p bs)
   unfolding read_as_of
   no_sort_by (parsed t cs) is vs p q = absurd (true_not_false false (is_stored_lem t cs is vs (Err (NotASort p)) q) refl)
   no_sort_by (stuck cs) is vs p q =
@@ -141,32 +141,32 @@ module _ (ws : List ℕ) (n e k : ℕ) (bs : List ℕ) (b : Begun ws n e k) (few
       let h : p ≡ length bs - length cs = cc in
       line_wrong bs cs l is ∙ ap (λ x. wrong (50 ∷ 48 ∷ 58 ∷ x)) (sym (ap (λ (i : ℕ). drop i bs) h ∙ unread_end bs cs is))
 
-  refusal_by : (P : Parsed) → line bs ≡ P → (vs : List ℕ) (c : Refusal) → read_left vs (Err (Refused c)) ≡ read_as_of ws n e bs P → ⊥
+  refusal_by : (P : Parsed) → line bs ≡ P → (vs : List ℕ) (c : Refusal) → words_left vs (Err (Refused c)) ≡ read_as_of ws n e bs P → ⊥
   unfolding read_as_of
   refusal_by (parsed t cs) is vs c q = true_not_false false (is_stored_lem t cs is vs (Err (Refused c)) q) refl
   refusal_by (stuck cs) is vs c q = let a : ◌≡◌ {A = ReadAnswer} (Err (Refused c)) (Err (NotASort (length bs - length cs))) = ap (λ r. r.answer) q in no_confusion (cc)
 
-  room_by : (P : Parsed) → line bs ≡ P → (vs : List ℕ) → read_left vs (Err NoRoom) ≡ read_as_of ws n e bs P → ⊥
+  room_by : (P : Parsed) → line bs ≡ P → (vs : List ℕ) → words_left vs (Err NoRoom) ≡ read_as_of ws n e bs P → ⊥
   unfolding read_as_of
   room_by (parsed t cs) is vs q = has_room_of t cs is vs q
   room_by (stuck cs) is vs q = let a : ◌≡◌ {A = ReadAnswer} (Err NoRoom) (Err (NotASort (length bs - length cs))) = ap (λ r. r.answer) q in no_confusion (cc)
 
   -- by what is answered
-  module _ (vs : List ℕ) (r : ReadAnswer) (f : read_left vs r ≡ read_as_of ws n e bs (line bs)) where
+  module _ (vs : List ℕ) (r : ReadAnswer) (f : words_left vs r ≡ read_as_of ws n e bs (line bs)) where
     pub read_sort : (u : SortId) (K : Counts) → r ≡ Ok (u, K) → ReadSort vs u K
-    read_sort u K i = sort_by (line bs) refl vs u K (ap (read_left vs) (sym i) ∙ f)
+    read_sort u K i = sort_by (line bs) refl vs u K (ap (words_left vs) (sym i) ∙ f)
 
     pub no_sort : (p : ℕ) → r ≡ Err (NotASort p) → line_of bs ≡ wrong (50 ∷ 48 ∷ 58 ∷ drop p bs)
-    no_sort p i = no_sort_by (line bs) refl vs p (ap (read_left vs) (sym i) ∙ f)
+    no_sort p i = no_sort_by (line bs) refl vs p (ap (words_left vs) (sym i) ∙ f)
 
     pub not_refused : (c : Refusal) → r ≡ Err (Refused c) → ⊥
-    not_refused c i = refusal_by (line bs) refl vs c (ap (read_left vs) (sym i) ∙ f)
+    not_refused c i = refusal_by (line bs) refl vs c (ap (words_left vs) (sym i) ∙ f)
 
     pub has_room : r ≡ Err NoRoom → ⊥
-    has_room i = room_by (line bs) refl vs (ap (read_left vs) (sym i) ∙ f)
+    has_room i = room_by (line bs) refl vs (ap (words_left vs) (sym i) ∙ f)
 
   -- a line that is not read prints why
-  pub wrong_read : (vs : List ℕ) (why : Unread) → read_left vs (Err why) ≡ read_as_of ws n e bs (line bs) → line_of bs ≡ wrong (wrong_text bs why)
+  pub wrong_read : (vs : List ℕ) (why : Unread) → words_left vs (Err why) ≡ read_as_of ws n e bs (line bs) → line_of bs ≡ wrong (wrong_text bs why)
   wrong_read vs (Refused c) f = absurd (not_refused vs (Err (Refused c)) f c refl)
   wrong_read vs (NotASort p) f = no_sort vs (Err (NotASort p)) f p refl
   wrong_read vs NoRoom f = absurd (has_room vs (Err NoRoom) f refl)

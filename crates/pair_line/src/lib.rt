@@ -2,11 +2,12 @@
 // sorts alone, in a storage of its own, and its line of output is put into the lent buffer.
 #![tactic(auto)]
 
-ghost use Rattle.std.specs.Prelude.{◌≡◌, true, false, [], ◌∷◌, ◌≤◌, length};
+ghost use Rattle.std.specs.Prelude.{◌≡◌, true, false, [], ◌∷◌, ◌≤◌, length, OnOk, OnSome};
 ghost use Rattle.resolved_sort.specs.Order.{bound as bound_of};
 ghost use Rattle.resolved_sort.specs.Storage.{full_length};
 ghost use Rattle.resolved_sort.specs.Checks.{first_failing};
 ghost use Rattle.resolved_sort.specs.Entries.{tree_at};
+ghost use Rattle.resolved_sort.specs.Index.{Indexed};
 ghost use Rattle.pair_line.specs.PairProgram.{small_decimal, sign, sort_or_none, yes_or_no};
 ghost use Rattle.pair_line.specs.PairProgram.{answer, line_of, pair as pair_of, single as single_of};
 ghost use Rattle.sort_text.specs.Writing.{write_left};
@@ -17,9 +18,9 @@ ghost use Rattle.pair_line.specs.Inner.Room.{BothRead, RoomGrows, SortOrPut, Lin
 ghost use Rattle.pair_line.specs.Inner.Answers.{steps_text, wrong_text, length_check, LineTested};
 ghost use Rattle.pair_line.specs.Answers.{printed, output_left, pair_left, single_left};
 
-use resolved_sort::{Counts, FIXED_SORTS, Refusal, SORT_WORDS, SortId, Steps};
+use resolved_sort::{Counts, FIXED_SORTS, Refusal, SLOTS, SORT_WORDS, SortId, Steps};
 use sort_bounds::bound;
-use sort_interner::{SortInterner, put_fixed_six};
+use sort_interner::{SortInterner, fill_index, put_fixed_six};
 use sort_lexer::unread;
 use sort_order::{is_materializable, partial_cmp, widening_distance};
 use sort_reader::read_line;
@@ -82,13 +83,15 @@ fn put_steps(steps: Option<Steps>, out: &mut Out)
 // The text of a join (up) or meet, or `none`. What it makes stays in the storage, where room does not end (`not_full`).
 // kept: sorts and out apart, here and below, since a &mut in a struct within a struct is lost where its borrow ends.
 fn put_bound(sorts: &mut SortInterner, up: bool, lhs: SortId, rhs: SortId, out: &mut Out)
-    requires { BoundRoom sorts.old.words.now sorts.old.counts.sorts sorts.old.counts.entries lhs.0 rhs.0 }
+    requires room { BoundRoom sorts.old.words.now sorts.old.counts.sorts sorts.old.counts.entries lhs.0 rhs.0 }
+    requires indexed { Indexed sorts.old.words.now sorts.old.counts.sorts sorts.old.index.now }
     ensures put { out.new
         ≡ then_put out.old
         (sort_or_none (bound_of up (tree_at sorts.old.words.now sorts.old.counts.sorts lhs.0)
         (tree_at sorts.old.words.now sorts.old.counts.sorts rhs.0))) }
     ensures grows { RoomGrows sorts.old.words.now sorts.old.counts.sorts sorts.old.counts.entries
         sorts.new.words.now sorts.new.counts.sorts sorts.new.counts.entries }
+    ensures indexed { Indexed sorts.new.words.now sorts.new.counts.sorts sorts.new.index.now }
 {
     match bound(sorts, up, lhs, rhs).unwrap_or(None) {
         Some(id) => put_text(&sorts.sorts(), id, out),
@@ -98,7 +101,8 @@ fn put_bound(sorts: &mut SortInterner, up: bool, lhs: SortId, rhs: SortId, out: 
 
 // What a pair prints whose two sorts are stored.
 fn put_answer(sorts: &mut SortInterner, lhs: SortId, rhs: SortId, out: &mut Out)
-    requires { BothRead sorts.old.words.now sorts.old.counts.sorts sorts.old.counts.entries lhs.0 rhs.0 }
+    requires read { BothRead sorts.old.words.now sorts.old.counts.sorts sorts.old.counts.entries lhs.0 rhs.0 }
+    requires indexed { Indexed sorts.old.words.now sorts.old.counts.sorts sorts.old.index.now }
     ensures { out.new
         ≡ then_put out.old
         (answer (tree_at sorts.old.words.now sorts.old.counts.sorts lhs.0)
@@ -143,9 +147,11 @@ fn test_length(line: &[u8]) -> Result<(), Refusal>
 
 // The sort of a line, stored in a storage that begins with the fixed six; or why there is none.
 fn sort_of(sorts: &mut SortInterner, line: &[u8]) -> Result<SortId, Unread>
-    requires { Begun sorts.old.words.now sorts.old.counts.sorts sorts.old.counts.entries max_line }
-    ensures { LineLeft sorts.old.words.now sorts.old.counts.sorts sorts.old.counts.entries line.now
+    requires begun { Begun sorts.old.words.now sorts.old.counts.sorts sorts.old.counts.entries max_line }
+    requires indexed { Indexed sorts.old.words.now sorts.old.counts.sorts sorts.old.index.now }
+    ensures left { LineLeft sorts.old.words.now sorts.old.counts.sorts sorts.old.counts.entries line.now
         sorts.new.words.now sorts.new.counts.sorts sorts.new.counts.entries result }
+    ensures indexed { OnOk result (Indexed sorts.new.words.now sorts.new.counts.sorts sorts.new.index.now) }
 {
     test_length(line)?;
     read_line(sorts, line)
@@ -153,9 +159,11 @@ fn sort_of(sorts: &mut SortInterner, line: &[u8]) -> Result<SortId, Unread>
 
 // The sort of a line, likewise. Of a line that is none, what it prints is put.
 fn sort_or_put(sorts: &mut SortInterner, line: &[u8], out: &mut Out) -> Option<SortId>
-    requires { Begun sorts.old.words.now sorts.old.counts.sorts sorts.old.counts.entries max_line }
-    ensures { SortOrPut sorts.old.words.now sorts.old.counts.sorts sorts.old.counts.entries line.now out.old
+    requires begun { Begun sorts.old.words.now sorts.old.counts.sorts sorts.old.counts.entries max_line }
+    requires indexed { Indexed sorts.old.words.now sorts.old.counts.sorts sorts.old.index.now }
+    ensures left { SortOrPut sorts.old.words.now sorts.old.counts.sorts sorts.old.counts.entries line.now out.old
         sorts.new.words.now sorts.new.counts.sorts sorts.new.counts.entries out.new result }
+    ensures indexed { OnSome result (Indexed sorts.new.words.now sorts.new.counts.sorts sorts.new.index.now) }
 {
     match sort_of(sorts, line) {
         Ok(id) => Some(id),
@@ -166,14 +174,17 @@ fn sort_or_put(sorts: &mut SortInterner, line: &[u8], out: &mut Out) -> Option<S
     }
 }
 
-// What a pair prints, its sorts in a storage of its own.
+// What a pair prints, its sorts in a storage of its own, found by an index of its own.
 fn put_pair(first: &[u8], second: &[u8], out: &mut Out)
     ensures { out.new ≡ then_put out.old (pair_of first.now second.now) }
 {
     let mut words = [0u16; SORT_WORDS];
     put_fixed_six(&mut words, 0);
+    let mut index = [0u16; SLOTS];
+    fill_index(&words, &mut index, FIXED_SORTS);
     let mut sorts = SortInterner {
         words: &mut words,
+        index: &mut index,
         counts: Counts {
             sorts: FIXED_SORTS,
             entries: 0,

@@ -18,7 +18,8 @@ use Rattle.resolved_sort.specs.declared.Refusal.TheVariants.{LongLine}
 use Rattle.entry_answers.proofs.Refusals.{codes_tell, code_in_byte}
 use Rattle.sort_text.specs.declared.Unread.TheVariants.{Refused, NotASort, NoRoom}
 use Rattle.sort_text.specs.Parse.{Parsed, parsed, stuck, line}
-use Rattle.sort_text.specs.Reading.{store, read_checks, ReadAnswer, code_read, ReadLeft, read_left, stored_by, read_as_of, reading}
+use Rattle.sort_text.specs.Reading.{store, read_checks, ReadAnswer, code_read, WordsLeft, words_left, stored_by, read_as_of}
+use Rattle.sort_text.specs.Reading.{reading_words, reading}
 use Rattle.sort_reader.specs.Codes.{coded_read, ReadWithin, store_code, line_code_of}
 use Rattle.sort_reader.specs.Answered.{ReadSays}
 use Rattle.sort_reader.proofs.Answered.{entry_is_line}
@@ -34,8 +35,8 @@ unfolding read_as_of code_read
 line_code ws n e bs (parsed t cs) = stored_code ws n e (stored ws n e (store t (sorts_of ws n e))) _
 line_code ws n e bs (stuck cs) = refl
 
-by_check : (x : Tested) (ws : List ℕ) (r : ReadLeft)
-    → code_read (refused_or x (λ c. read_left ws (Err (Refused c))) r).answer ≡ refused_or x code_of (code_read r.answer)
+by_check : (x : Tested) (ws : List ℕ) (r : WordsLeft)
+    → code_read (refused_or x (λ c. words_left ws (Err (Refused c))) r).answer ≡ refused_or x code_of (code_read r.answer)
 unfolding code_read
 by_check (Ok u) ws r = refl
 by_check (Err c) ws r = refl
@@ -43,17 +44,17 @@ by_check (Err c) ws r = refl
 else_same : (x : Tested) (m k : ℕ) → m ≡ k → refused_or x code_of m ≡ refused_or x code_of k
 else_same x m k e = rw e
 
-pub code_of_reading : (ws : List ℕ) (n e : ℕ) (bs : List ℕ) → code_read (reading ws n e bs).answer ≡ refused_or
-    (first_failing (read_checks ws n e bs)) code_of (line_code_of ws n e (line bs))
-unfolding reading
-code_of_reading ws n e bs =
-    by_check (first_failing (read_checks ws n e bs)) ws (read_as_of ws n e bs (line bs)) ∙ else_same
-    (first_failing (read_checks ws n e bs)) _ _ (line_code ws n e bs (line bs))
+pub code_of_reading : (ws ix : List ℕ) (n e : ℕ) (bs : List ℕ) → code_read (reading ws ix n e bs).answer ≡ refused_or
+    (first_failing (read_checks ws ix n e bs)) code_of (line_code_of ws n e (line bs))
+unfolding reading reading_words
+code_of_reading ws ix n e bs =
+    by_check (first_failing (read_checks ws ix n e bs)) ws (read_as_of ws n e bs (line bs)) ∙ else_same
+    (first_failing (read_checks ws ix n e bs)) _ _ (line_code ws n e bs (line bs))
 
 -- a refusal is by a check
-refused_by_number : (ws : List ℕ) (n e : ℕ) (bs : List ℕ) (c : Refusal) → first_failing (read_checks ws n e bs) ≡ Err c → Numbered c ⊎ (c ≡ LongLine)
+refused_by_number : (ws ix : List ℕ) (n e : ℕ) (bs : List ℕ) (c : Refusal) → first_failing (read_checks ws ix n e bs) ≡ Err c → Numbered c ⊎ (c ≡ LongLine)
 unfolding read_checks sort_checks code_of
-refused_by_number ws n e bs c x = failing_number (λ c. Numbered c ⊎ (c ≡ LongLine)) (read_checks ws n e bs) c (
+refused_by_number ws ix n e bs c x = failing_number (λ c. Numbered c ⊎ (c ≡ LongLine)) (read_checks ws ix n e bs) c (
   inl (omega arith, omega arith),
   (
     inl (omega arith, omega arith),
@@ -62,15 +63,15 @@ refused_by_number ws n e bs c x = failing_number (λ c. Numbered c ⊎ (c ≡ Lo
 )
     x
 
-within_by : (ws : List ℕ) (n e : ℕ) (bs vs : List ℕ) (r : ReadAnswer) → ReadSays ws n e bs vs r → ReadWithin r
-within_by ws n e bs vs (Ok sort) h = tt
-within_by ws n e bs vs (Err (Refused c)) h = refused_by_number ws n e bs c h.first
-within_by ws n e bs vs (Err (NotASort at)) h = tt
-within_by ws n e bs vs (Err NoRoom) h = tt
+within_by : (ws ix : List ℕ) (n e : ℕ) (bs vs jx : List ℕ) (r : ReadAnswer) → ReadSays ws ix n e bs vs jx r → ReadWithin r
+within_by ws ix n e bs vs jx (Ok sort) h = tt
+within_by ws ix n e bs vs jx (Err (Refused c)) h = refused_by_number ws ix n e bs c h.first
+within_by ws ix n e bs vs jx (Err (NotASort at)) h = tt
+within_by ws ix n e bs vs jx (Err NoRoom) h = tt
 
 -- whatever the entry is given
-pub read_within : (ws : List ℕ) (n e : ℕ) (bs : List ℕ) → ReadWithin (reading ws n e bs).answer
-read_within ws n e bs = within_by ws n e bs _ (reading ws n e bs).answer (entry_is_line ws n e bs _ _ refl)
+pub read_within : (ws ix : List ℕ) (n e : ℕ) (bs : List ℕ) → ReadWithin (reading ws ix n e bs).answer
+read_within ws ix n e bs = within_by ws ix n e bs _ _ (reading ws ix n e bs).answer (entry_is_line ws ix n e bs _ _ _ refl)
 
 -- a refusal is neither an answer, nor 15, nor 20
 not_zero : (c : Refusal) → Numbered c ⊎ (c ≡ LongLine) → code_of c ≡ 0 → ⊥

@@ -1,17 +1,18 @@
 // A line read into the sort storage. The steps that recognising it wrote are carried out on a stack of sort numbers;
-// the entry tests all it is lent, recognises the line, and only then stores.
+// the entry tests all it is lent, recognises the line, and only then fills the index and stores.
 #![tactic(auto)]
 
-ghost use Rattle.std.specs.Prelude.{MatchOption, MatchResult, Ok, Err, OnErr, ◌≡◌, ◌+◌, ◌-◌, ◌<◌, ◌≤◌, [], set, take, drop};
-ghost use Rattle.sort_reader.specs.Inner.Run.{max_stack, run_at, Running, SaysStep, TopTaken, RunLeft};
+ghost use Rattle.std.specs.Prelude.{MatchOption, MatchResult, IfNone, OnSome, Ok, Err, OnOk, OnErr, ◌≡◌, ◌+◌, ◌-◌, ◌<◌, ◌≤◌, [], set, take, drop};
+ghost use Rattle.sort_reader.specs.Inner.Run.{max_stack, run_at, Running, SaysStep, TopTaken, RunLeft, made_at, steps_stored};
+ghost use Rattle.resolved_sort.specs.Index.{Indexed};
 ghost use Rattle.resolved_sort.specs.Checks.{first_failing};
 ghost use Rattle.sort_text.specs.Parse.{line as line_of};
 ghost use Rattle.sort_text.specs.Reading.{read_checks, read_left, read_at, read_as_of, reading};
 ghost use Rattle.sort_reader.specs.Inner.Tested.{Passes};
 
-use resolved_sort::{ComplexSort, Counts, FIXED_SORTS, Refusal, SORT_WORDS, SortId};
+use resolved_sort::{ComplexSort, Counts, FIXED_SORTS, Refusal, SLOTS, SORT_WORDS, SortId};
 use sort_checks::test_sorts;
-use sort_interner::SortInterner;
+use sort_interner::{SortInterner, clear_index, fill_index};
 use sort_recogniser::recognise;
 use sort_text::{FUNCTION_STEP, MAX_LINE, Unread};
 
@@ -84,8 +85,11 @@ impl Stack {
 // Carries out the steps of a sort; the sort that is then on top of the stack. None where room ends, or where the stack
 // has not what a step takes.
 fn run(sorts: &mut SortInterner, steps: &[u8]) -> Option<SortId>
-    requires { Running sorts.old.words.now sorts.old.counts.sorts sorts.old.counts.entries steps.now 0 [] 0 }
+    requires running { Running sorts.old.words.now sorts.old.counts.sorts sorts.old.counts.entries steps.now 0 [] 0 }
+    requires indexed { Indexed sorts.old.words.now sorts.old.counts.sorts sorts.old.index.now }
     ensures same_reference { sorts.new.words.ghost_name ≡ sorts.old.words.ghost_name }
+    ensures same_index { sorts.new.index.ghost_name ≡ sorts.old.index.ghost_name }
+    ensures indexed { Indexed sorts.new.words.now sorts.new.counts.sorts sorts.new.index.now }
     ensures left { RunLeft sorts.new.words.now sorts.new.counts result
         (run_at sorts.old.words.now sorts.old.counts.sorts sorts.old.counts.entries steps.now [] 0) }
 {
@@ -111,23 +115,43 @@ fn run(sorts: &mut SortInterner, steps: &[u8]) -> Option<SortId>
     stack.pop()
 }
 
+// Carries out the steps of a sort, and what was stored stays; None where room ended, and then it is given back.
+fn store(sorts: &mut SortInterner, steps: &[u8]) -> Option<SortId>
+    requires running { Running sorts.old.words.now sorts.old.counts.sorts sorts.old.counts.entries steps.now 0 [] 0 }
+    requires indexed { Indexed sorts.old.words.now sorts.old.counts.sorts sorts.old.index.now }
+    ensures same_reference { sorts.new.words.ghost_name ≡ sorts.old.words.ghost_name }
+    ensures same_index { sorts.new.index.ghost_name ≡ sorts.old.index.ghost_name }
+    ensures indexed { OnSome result (Indexed sorts.new.words.now sorts.new.counts.sorts sorts.new.index.now) }
+    ensures counts { IfNone result (sorts.new.counts ≡ sorts.old.counts) }
+    ensures stored { made_at sorts.new.words.now sorts.new.counts result
+        ≡ steps_stored sorts.old.words.now sorts.old.counts.sorts sorts.old.counts.entries steps.now }
+{
+    let given = sorts.counts;
+    let Some(id) = run(sorts, steps) else {
+        sorts.give_back(given);
+        return None;
+    };
+    Some(id)
+}
+
 // Checks 1 to 4, 14 and 19: the first that fails, or the counts of the list.
 // kept: the list with its counts apart, here and in read: a caller would make a struct of these same fields for one call.
 fn test_read(
     sorts: &[u16],
     sort_count: usize,
     entry_count: usize,
+    index: &[u16],
     line: &[u8],
 ) -> Result<Counts, Refusal>
     ensures { MatchResult result
         (λ counts. (counts.sorts ≡ sort_count)
         × (counts.entries ≡ entry_count)
-        × (Ok tt ≡ first_failing (read_checks sorts.now sort_count entry_count line.now)))
+        × (Ok tt ≡ first_failing (read_checks sorts.now index.now sort_count entry_count line.now)))
         (λ refusal. Err refusal
-        ≡ first_failing (read_checks sorts.now sort_count entry_count line.now)) }
+        ≡ first_failing (read_checks sorts.now index.now sort_count entry_count line.now)) }
 {
     test_sorts(sorts, sort_count, entry_count)?;
-    if sorts.len() < SORT_WORDS {
+    if sorts.len() < SORT_WORDS || index.len() < SLOTS {
         return Err(Refusal::TooShort);
     }
     if MAX_LINE < line.len() {
@@ -139,43 +163,56 @@ fn test_read(
     })
 }
 
-// A line that passed the tests. What was stored stays; where room ended it is given back.
+// A line that passed the tests, over an index that is filled already. What was stored stays; where room ended it is
+// given back.
 pub fn read_line(sorts: &mut SortInterner, line: &[u8]) -> Result<SortId, Unread>
-    requires { Passes sorts.old.words.now sorts.old.counts.sorts sorts.old.counts.entries line.now }
+    requires passes { Passes sorts.old.words.now sorts.old.counts.sorts sorts.old.counts.entries line.now }
+    requires indexed { Indexed sorts.old.words.now sorts.old.counts.sorts sorts.old.index.now }
     ensures same_reference { sorts.new.words.ghost_name ≡ sorts.old.words.ghost_name }
+    ensures same_index { sorts.new.index.ghost_name ≡ sorts.old.index.ghost_name }
+    ensures indexed { OnOk result (Indexed sorts.new.words.now sorts.new.counts.sorts sorts.new.index.now) }
     ensures counts { OnErr result (sorts.new.counts ≡ sorts.old.counts) }
     ensures read { read_at sorts.new.words.now sorts.new.counts result
         ≡ read_as_of sorts.old.words.now sorts.old.counts.sorts sorts.old.counts.entries line.now
         (line_of line.now) }
 {
-    let given = sorts.counts;
     let mut steps = [0u8; MAX_LINE];
     let count = recognise(line, &mut steps)?;
-    let Some(id) = run(sorts, &steps[..count]) else {
-        sorts.give_back(given);
+    let Some(id) = store(sorts, &steps[..count]) else {
         return Err(Unread::NoRoom);
     };
     Ok(id)
 }
 
 // The sort of a line, stored: parts first, arguments left to right, then the range, then the whole.
-// Ruled out: a sort for a line of 201 bytes; sorts of a line that is none left in the storage.
+// Ruled out: a sort for a line of 201 bytes; sorts of a line that is none left in the storage; an index left filled, or
+// touched where the line is none.
 pub fn read(
     sorts: &mut [u16],
     sort_count: usize,
     entry_count: usize,
+    index: &mut [u16],
     line: &[u8],
 ) -> Result<(SortId, Counts), Unread>
-    ensures { read_left sorts.new result
-        ≡ reading sorts.old sort_count entry_count line.now }
+    ensures { read_left sorts.new index.new result
+        ≡ reading sorts.old index.old sort_count entry_count line.now }
 {
-    let counts = test_read(sorts, sort_count, entry_count, line)?;
+    let given = test_read(sorts, sort_count, entry_count, index, line)?;
+    let mut steps = [0u8; MAX_LINE];
+    let step_count = recognise(line, &mut steps)?;
+    fill_index(sorts, index, given.sorts);
     let mut interner = SortInterner {
         words: sorts,
-        counts,
+        index,
+        counts: given,
     };
-    let id = read_line(&mut interner, line)?;
-    Ok((id, interner.counts))
+    let stored = store(&mut interner, &steps[..step_count]);
+    let counts = interner.counts;
+    clear_index(index);
+    let Some(id) = stored else {
+        return Err(Unread::NoRoom);
+    };
+    Ok((id, counts))
 }
 
 // How many sorts the stack holds: more than the steps of a line can put there.

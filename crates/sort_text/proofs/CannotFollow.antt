@@ -20,7 +20,7 @@ use Rattle.resolved_sort.specs.Storage.{sorts_of}
 use Rattle.resolved_sort.specs.Checks.{first_failing, Tested}
 use Rattle.resolved_sort.specs.Entries.{refused_or, Stored, stored}
 use Rattle.sort_text.specs.declared.Unread.TheVariants.{Refused, NotASort}
-use Rattle.sort_text.specs.Reading.{store, read_checks, read_left, stored_by, read_as_of, reading}
+use Rattle.sort_text.specs.Reading.{store, read_checks, words_left, stored_by, read_as_of, reading_words, reading}
 use Rattle.sort_text.specs.Tokens.{is_letter, NextToken, end, word, open_bracket, close_bracket, hash, arrow, bad}
 use Rattle.sort_text.specs.Tokens.{run, past, skip, dash, start, next_at, next}
 use Rattle.sort_text.specs.Parse.{Parsed, parsed, stuck, ◌then-read◌, WordMeaning, basic, operator, unknown, meaning}
@@ -911,12 +911,12 @@ read_as ws n e bs p (stuck cs) f a =
     subst (FirstThatCannotFollow bs) (sym (unread_end bs cs f) ∙ ap (λ k. drop k bs) z) (stops_at_the_first_token_that_cannot_follow bs cs f)
 
 by_checks : (x : Tested) (ws : List ℕ) (n e : ℕ) (bs : List ℕ) (p : ℕ)
-    → (refused_or x (λ c. read_left ws (Err (Refused c))) (read_as_of ws n e bs (line bs))).answer ≡ Err (NotASort p) → FirstThatCannotFollow bs (drop p bs)
+    → (refused_or x (λ c. words_left ws (Err (Refused c))) (read_as_of ws n e bs (line bs))).answer ≡ Err (NotASort p) → FirstThatCannotFollow bs (drop p bs)
 by_checks (Ok u) ws n e bs p a = read_as ws n e bs p (line bs) refl a
 by_checks (Err c) ws n e bs p a = let z : ◌≡◌ {A = ℕ} 0 1 = cc in absurd (omega arith)
 
 -- With 20 the caller gets back the place where the first token stands that cannot follow.
-pub unread_end_cannot_follow : (ws : List ℕ) (n e : ℕ) (bs : List ℕ) (p : ℕ) → (reading ws n e bs).answer ≡ Err (NotASort p)
+pub unread_end_cannot_follow : (ws ix : List ℕ) (n e : ℕ) (bs : List ℕ) (p : ℕ) → (reading ws ix n e bs).answer ≡ Err (NotASort p)
     → FirstThatCannotFollow bs (drop p bs)
-unfolding reading
-unread_end_cannot_follow ws n e bs p a = by_checks (first_failing (read_checks ws n e bs)) ws n e bs p a
+unfolding reading reading_words
+unread_end_cannot_follow ws ix n e bs p a = by_checks (first_failing (read_checks ws ix n e bs)) ws n e bs p a

@@ -8,6 +8,9 @@ use Rattle.text_out.specs.Quoted.{bytes_of}
 use Rattle.resolved_sort.specs.declared.Sort.{Sort}
 use Rattle.resolved_sort.specs.declared.ComplexSort.{ComplexSort}
 use Rattle.resolved_sort.specs.Tree.{unit, primitive, def, typevar, Tree, flat, container, function, no_args, arg}
+use Rattle.std.specs.Prelude.{Ok, Err}
+use Rattle.resolved_sort.specs.declared.Refusal.TheVariants.{TooShort}
+use Rattle.sort_text.specs.declared.Unread.TheVariants.{Refused, NotASort, NoRoom}
 use Rattle.sort_text.specs.Tokens
 use Rattle.sort_text.specs.Tokens.{is_letter, NextToken, end, word, open_bracket, close_bracket, hash, arrow, bad, next}
 use Rattle.sort_text.specs.Text
@@ -191,9 +194,16 @@ unfolding Readable.size Readable.sizes
 nodes_are_counted = refl
 
 -- the checks in their order, and the longest line
-read_checks_are : map (λ (c : Check). Checks.code_of c.refusal) (Reading.read_checks [] 0 0 []) ≡ 1 ∷ 2 ∷ 3 ∷ 4 ∷ 14 ∷ 19 ∷ []
+read_checks_are : map (λ (c : Check). Checks.code_of c.refusal) (Reading.read_checks [] [] 0 0 []) ≡ 1 ∷ 2 ∷ 3 ∷ 4 ∷ 14 ∷ 19 ∷ []
 unfolding Reading.read_checks Checks.sort_checks Checks.code_of
 read_checks_are = refl
+
+-- the index after a sort, a check, 20 and no room
+index_is : map (Reading.index_left (7 ∷ 8 ∷ []))
+    (Ok (record { 0 = 5 }, record { sorts = 6; entries = 0 }) ∷ Err (Refused TooShort) ∷ Err (NotASort 3) ∷ Err NoRoom ∷ [])
+    ≡ (0 ∷ 0 ∷ []) ∷ (7 ∷ 8 ∷ []) ∷ (7 ∷ 8 ∷ []) ∷ (0 ∷ 0 ∷ []) ∷ []
+unfolding Reading.index_left
+index_is = refl
 
 write_checks_are : map (λ (c : Check). Checks.code_of c.refusal) (Writing.write_checks [] 0 0 0 []) ≡ 1 ∷ 2 ∷ 3 ∷ 4 ∷ 12 ∷ 13 ∷ 14 ∷ []
 unfolding Writing.write_checks Checks.sort_checks Checks.code_of

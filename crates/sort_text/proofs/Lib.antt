@@ -18,3 +18,4 @@ pub mod Sizes
 pub mod ReadableBounds
 pub mod PairRoom
 pub mod LineSteps
+pub mod IndexWords

@@ -1,6 +1,6 @@
 -- Steps on a stack of sort numbers, as the code carries them out.
 use Rattle.std.specs.Prelude.{◌≡◌, List, [], ◌∷◌, ℕ, zero, suc, ◌+◌, ◌-◌, ◌<◌, ◌≤◌, length, get_or, drop}
-use Rattle.std.specs.Prelude.{Option, Some, None}
+use Rattle.std.specs.Prelude.{Option, Some, None, Ok, Err}
 use Rattle.resolved_sort.specs.declared.SortId.{SortId}
 use Rattle.resolved_sort.specs.declared.Counts.{Counts}
 use Rattle.resolved_sort.specs.Entries.{Joined}
@@ -12,7 +12,9 @@ use Rattle.resolved_sort.specs.Interning.{look}
 use Rattle.resolved_sort.specs.Storage.{trees, sorts_of}
 use Rattle.resolved_sort.specs.Entries.{Stored, stored}
 use Rattle.resolved_sort.specs.Rows.{Checked, stored_at}
+use Rattle.sort_text.specs.declared.Unread.TheVariants.{NoRoom}
 use Rattle.sort_text.specs.Postfix.{function_step, op_of, Short, sixth, steps}
+use Rattle.sort_text.specs.Reading.{WordsLeft, words_left, stored_by}
 
 -- how many sorts the stack holds: more than the steps of a line can put there
 abbrev pub max_stack : ℕ
@@ -66,3 +68,11 @@ MadeNone Full = Unit {0}
 abbrev pub RunLeft : List ℕ → Counts → Option SortId → Stored → Type 0
 RunLeft ws k (Some s) w = stored_at ws (At s k) ≡ w
 RunLeft ws k None w = (ws ≡ w.words) × MadeNone w.answer
+
+-- The same where what was stored is given back when room ended.
+abbrev pub made_at : List ℕ → Counts → Option SortId → WordsLeft
+made_at ws k (Some s) = words_left ws (Ok (s, k))
+made_at ws k None = words_left ws (Err NoRoom)
+
+abbrev pub steps_stored : List ℕ → ℕ → ℕ → List ℕ → WordsLeft
+steps_stored ws n e ops = let r : Stored = run_at ws n e ops [] 0 in stored_by ws n e r r.answer
