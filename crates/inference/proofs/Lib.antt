@@ -33,6 +33,7 @@ pub mod LeavesMet
 pub mod Choices
 -- the statements, each read alone
 pub mod Statements
+pub mod IndexWords
 -- computed: the starred situations, and lists with their answers
 pub mod Situations
 pub mod Compared

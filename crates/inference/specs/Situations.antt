@@ -9,6 +9,8 @@ use Rattle.resolved_sort.specs.Order as Order
 use Rattle.resolved_sort.specs.Interning as Interning
 use Rattle.resolved_sort.specs.Storage.{max_sorts, max_entries, row_words, entries_at}
 use Rattle.resolved_sort.specs.Storage as Storage
+use Rattle.resolved_sort.specs.Index.{slots}
+use Rattle.resolved_sort.specs.Index as Index
 use Rattle.resolved_sort.specs.Entries.{tree_at}
 use Rattle.resolved_sort.specs.Entries as Entries
 use Rattle.resolved_sort.specs.Bounds as Bounds
@@ -91,6 +93,7 @@ situation_call G =
           };
       default = G.default;
       scratch = replicate scratch_words 0;
+      index = replicate slots 0;
       typing = replicate (typing_words * length G.exprs) 0;
       measure = replicate max_components 0;
       choices = replicate (choice_words * max_constraints) 0;
@@ -119,6 +122,7 @@ unfolding Checks.all_below Checks.within_lent Checks.fixed_six Checks.parts_belo
     Search.solve SolveEntry.typing_rows Rising.choices_for Rising.rising_from SolveEntry.choice_rows
     SolveEntry.solve_entry SolveEntry.room_refusal SolveEntry.code_solved
     Measure.compare Measure.worse SolveChecks.all_within_lent SolveChecks.rows_within_lent SolveChecks.outputs_long
+    Index.index_long
     SolveChecks.target_fine SolveChecks.exprs_fine SolveChecks.names_fine SolveChecks.overload_fine
     SolveChecks.constraints_fine SolveChecks.disjunctions SolveChecks.among SolveChecks.no_two SolveChecks.joins_fine
     SolveChecks.components SolveChecks.long_enough SolveChecks.solve_checks four_words six storage situation_call

@@ -3,6 +3,7 @@ use Rattle.std.specs.Prelude.{Bool, true, false, cond, not, ◌&&◌, List, [], 
 use Rattle.resolved_sort.specs.declared.Refusal.TheVariants.{NotLent, BadExpression, BadConstraint, TwoForOne, BadJoin, NotInList, TooShort}
 use Rattle.resolved_sort.specs.declared.Run.{Run}
 use Rattle.resolved_sort.specs.Checks.{Check, all_below, within_lent, at_ceiling, sort_row_checks}
+use Rattle.resolved_sort.specs.Index.{index_long}
 use Rattle.unification.specs.declared.Lengths.{Lengths}
 use Rattle.unification.specs.Nodes.{full_nodes, is_place}
 use Rattle.unification.specs.NodeChecks.{nodes_within_lent, bindings_within_lent, node_checks}
@@ -15,8 +16,9 @@ use Rattle.inference.specs.Constraints.{constraint_at, rows_from}
 
 -- What a call is given: sorts, nodes and bindings with their lengths; the places of expressions,
 -- base names, constraints, overloads and sources with how many rows each has; the default sort;
--- scratch; and what its outputs are to be written to, a row for each expression (its sort and its
--- name, three words), for each component (one word) and for each choice (two words).
+-- scratch, and the index of sorts; and what its outputs are to be written to, a row for each
+-- expression (its sort and its name, three words), for each component (one word) and for each choice
+-- (two words).
 pub record Call : Type 0 where
   pub sorts : List ℕ
   pub nodes : List ℕ
@@ -30,6 +32,7 @@ pub record Call : Type 0 where
   pub rows : Rows
   pub default : ℕ
   pub scratch : List ℕ
+  pub index : List ℕ
   pub typing : List ℕ
   pub measure : List ℕ
   pub choices : List ℕ
@@ -159,10 +162,12 @@ unfoldable pub components : List Constraint → ℕ
 components [] = 0
 components (c ∷ cs) = components_of c + components cs
 
--- 14. "An output or the scratch is too short", with sorts and nodes at their ceilings
+-- 14. "An output or the scratch is too short", with sorts and nodes at their ceilings; C-14: "The index is scratch of
+-- its own, 2,048 words, 14 when shorter"
 unfoldable pub outputs_long : Call → Bool
 outputs_long I =
     leb scratch_words (length I.scratch)
+    && index_long I.index
     && leb (typing_words * I.rows.exprs) (length I.typing)
     && leb (components (given I)) (length I.measure)
     && leb (choice_words * length (disjunctions (given I))) (length I.choices)

@@ -1,13 +1,13 @@
 -- The solver's outcome for every call: the first failing check, or what the search comes to, with
 -- all lent memory as it is then.
 use Rattle.std.specs.Prelude.{◌≡◌, ◌⊎◌, Bool, true, false, cond, List, [], ◌∷◌, ◌++◌, ℕ, ◌+◌, ◌*◌, eqb, Result, Ok}
-use Rattle.std.specs.Prelude.{Err, length, get_or, take, drop, replicate}
+use Rattle.std.specs.Prelude.{Err, length, get_or, take, drop}
 use Rattle.std.proofs.Math.Option.{Option, none, some}
 use Rattle.resolved_sort.specs.declared.Counts.{Counts}
 use Rattle.resolved_sort.specs.declared.Refusal.{Refusal}
 use Rattle.resolved_sort.specs.declared.Refusal.TheVariants.{SortsFull, NodesFull}
 use Rattle.resolved_sort.specs.Storage.{row_words, given_back}
-use Rattle.words.specs.Words.{zeros}
+use Rattle.words.specs.Words.{zeros, cleared}
 use Rattle.resolved_sort.specs.Checks.{first_failing, code_of}
 use Rattle.resolved_sort.specs.Entries.{refused_or}
 use Rattle.unification.specs.Nodes.{node_entries_at, binds_of}
@@ -62,16 +62,15 @@ pub record SolveLeft : Type 0 where
   pub nodes : List ℕ
   pub binds : List ℕ
   pub scratch : List ℕ
+  pub index : List ℕ
   pub typing : List ℕ
   pub measure : List ℕ
   pub choices : List ℕ
 
--- "Scratch is zero after 15 to 18 and 0", "node rows past the entry length zero", "bindings as at entry"
+-- "Scratch is zero after 15 to 18 and 0", "node rows past the entry length zero", "bindings as at entry"; and of the
+-- index, which is scratch of its own: "zero after each call that passes its checks"
 unfoldable pub nodes_given_back : ℕ → ℕ → List ℕ → List ℕ
 nodes_given_back m d ns = zeros (node_entries_at + d) (length ns) (zeros (row_words * m) node_entries_at ns)
-
-abbrev pub cleared : List ℕ → List ℕ
-cleared xs = replicate (length xs) 0
 
 abbrev pub left_with : Call → Solved → List ℕ → List ℕ → List ℕ → List ℕ → SolveLeft
 left_with I r ws ts ms cs =
@@ -81,6 +80,7 @@ left_with I r ws ts ms cs =
       nodes = nodes_given_back I.lengths.nodes I.lengths.arguments I.nodes;
       binds = I.binds;
       scratch = cleared I.scratch;
+      index = cleared I.index;
       typing = ts;
       measure = ms;
       choices = cs;
@@ -95,6 +95,7 @@ refused I c =
       nodes = I.nodes;
       binds = I.binds;
       scratch = I.scratch;
+      index = I.index;
       typing = I.typing;
       measure = I.measure;
       choices = I.choices;
