@@ -1,5 +1,6 @@
 -- An arena, and what a call leaves of it.
-use Rattle.std.specs.Prelude.{◌≡◌, Option, Result, Ok, Err, List, ℕ}
+use Rattle.std.specs.Prelude.{◌≡◌, Option, Result, Ok, Err, OnOk, List, ℕ}
+use Rattle.resolved_sort.specs.Index.{Indexed}
 use Rattle.unification.specs.declared.InferSortId.{InferSortId}
 use Rattle.unification.specs.declared.Full.{Full}
 use Rattle.unification.specs.Checked.{Ready, Placed}
@@ -31,9 +32,20 @@ BindingsOf A bs B =
 abbrev pub PlacedIn : Arena → ℕ → Type 0
 PlacedIn A p = Placed A.lengths p
 
--- B has the same lent memory for the sorts and the nodes
+-- B has the same lent memory for the sorts, the nodes and the index
 abbrev pub Keeps : Arena → Arena → Type 0
-Keeps A B = (B.sorts.ghost_name ≡ A.sorts.ghost_name) × (B.nodes.ghost_name ≡ A.nodes.ghost_name)
+Keeps A B =
+    (B.sorts.ghost_name ≡ A.sorts.ghost_name)
+    × (B.nodes.ghost_name ≡ A.nodes.ghost_name)
+    × (B.index.ghost_name ≡ A.index.ghost_name)
+
+-- the index is that of the sorts
+abbrev pub Indexes : Arena → Type 0
+Indexes A = Indexed A.sorts.now A.lengths.sorts A.index.now
+
+-- and after a call, where no room ended
+abbrev pub IndexesOn : {A E : Type 0} → Result A E → Arena → Type 0
+IndexesOn r A = OnOk r (Indexes A)
 
 -- a node that was made, or no room, with the lists as they then are
 abbrev pub node_of : Result InferSortId Full → Lent → Makes ℕ

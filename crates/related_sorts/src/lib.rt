@@ -22,7 +22,7 @@ use infer_nodes::{Bindings, Places, node};
 use resolved_sort::{
     ARGUMENT_WORDS, ComplexSort, Counts, FUNCTION_KIND, ResolvedSort, Sort, SortId,
 };
-use sort_interner::{SortInterner, get, put_row, start_of};
+use sort_interner::{generic_over, get, put_row, start_of};
 use unification::{
     FIRST_NODE, Full, InferSort, InferSortId, Lengths, MAX_NODE_ENTRIES, MAX_PLACES,
     NODE_ENTRIES_AT, NODE_NUMBERS, NodeId, Place,
@@ -121,6 +121,7 @@ fn final_range(bindings: &Bindings, id: InferSortId, functions: &mut [u16]) -> L
 #[derive(Drop)]
 pub struct Arena<'a> {
     pub sorts: &'a mut [u16],
+    pub index: &'a mut [u16],
     pub nodes: &'a mut [u16],
     pub lengths: Lengths,
     pub ghost room: { full_nodes ≤ length nodes.now },
@@ -128,6 +129,7 @@ pub struct Arena<'a> {
 
 impl Arena<'_> {
     ghost use Rattle.related_sorts.specs.Arena.{world, node_of, Keeps, Lists, ListsSome, NodesIn, PlacedIn, ReadyIn, BindingsOf};
+    ghost use Rattle.related_sorts.specs.Arena.{Indexes, IndexesOn};
 
     // The places, as they are.
     fn places(&self) -> Places<'_>
@@ -150,8 +152,10 @@ impl Arena<'_> {
     // an end, and the search gives these nodes back when the tries are over.
     // kept: the kind as the word of the row that is made, as in sort_interner.
     fn push(&mut self, kind: u16, part: InferSortId, arguments: &[u16]) -> Result<InferSortId, Full>
-        requires { length arguments.now ≤ max_arguments }
+        requires fine { length arguments.now ≤ max_arguments }
+        requires indexed { Indexes self.old }
         ensures keeps { Keeps self.old self.new }
+        ensures indexed { IndexesOn result self.new }
         ensures pushed { node_of result (world self.new)
             ≡ push_node (row kind part.0 arguments.now) (world self.old) }
     {
@@ -179,8 +183,10 @@ impl Arena<'_> {
 
     // Functions of the same arguments over each of the ranges.
     fn push_functions(&mut self, domain: &[u16], ranges: Listed) -> Result<Listed, Full>
-        requires { length domain.now ≤ max_arguments }
+        requires fine { length domain.now ≤ max_arguments }
+        requires indexed { Indexes self.old }
         ensures keeps { Keeps self.old self.new }
+        ensures indexed { IndexesOn result self.new }
         ensures lists { Lists self.new result
             (push_functions domain.now (places ranges) (world self.old)) }
     {
@@ -201,9 +207,11 @@ impl Arena<'_> {
         subsort: SortId,
         up: bool,
     ) -> Result<Listed, Full>
-        requires { Checked self.old.sorts.now self.old.lengths.sorts self.old.lengths.entries
+        requires fine { Checked self.old.sorts.now self.old.lengths.sorts self.old.lengths.entries
             × (subsort.0 < self.old.lengths.sorts) }
+        requires indexed { Indexes self.old }
         ensures keeps { Keeps self.old self.new }
+        ensures indexed { IndexesOn result self.new }
         ensures lists { Lists self.new result
             (related_over (related_container up op) true subsort.0 (world self.old)) }
     {
@@ -212,9 +220,10 @@ impl Arena<'_> {
         };
         let counts = Counts::from(self.lengths);
         let words = &mut *self.sorts;
-        let mut interner = SortInterner { words, counts };
-        let id = interner.generic(related_op, subsort)?;
-        self.lengths = self.lengths.with_counts(interner.counts);
+        let index = &mut *self.index;
+        let (id, counts) = generic_over(words, index, counts, related_op, subsort);
+        let id = id?;
+        self.lengths = self.lengths.with_counts(counts);
         Ok(Listed::of(&[InferSortId::from(id)]))
     }
 
@@ -225,7 +234,9 @@ impl Arena<'_> {
         subsort: InferSortId,
         up: bool,
     ) -> Result<Listed, Full>
+        requires indexed { Indexes self.old }
         ensures keeps { Keeps self.old self.new }
+        ensures indexed { IndexesOn result self.new }
         ensures lists { Lists self.new result
             (related_over (related_container up op) false subsort.0 (world self.old)) }
     {
@@ -238,8 +249,10 @@ impl Arena<'_> {
 
     // An interned sort.
     fn related_sort(&mut self, id: SortId, up: bool) -> Result<Option<Listed>, Full>
-        requires { NodesIn self.old × PlacedIn self.old id.0 × (id.0 < max_sorts) }
+        requires fine { NodesIn self.old × PlacedIn self.old id.0 × (id.0 < max_sorts) }
+        requires indexed { Indexes self.old }
         ensures keeps { Keeps self.old self.new }
+        ensures indexed { IndexesOn result self.new }
         ensures lists { ListsSome self.new result (related_head up id.0 (world self.old)) }
     {
         match self.row(id) {
@@ -273,8 +286,10 @@ impl Arena<'_> {
 
     // By the head at the end of a place. Of a function the range is not asked about: that is for `related_function`.
     fn related_head(&mut self, id: InferSortId, up: bool) -> Result<Option<Listed>, Full>
-        requires { NodesIn self.old × PlacedIn self.old id.0 }
+        requires fine { NodesIn self.old × PlacedIn self.old id.0 }
+        requires indexed { Indexes self.old }
         ensures keeps { Keeps self.old self.new }
+        ensures indexed { IndexesOn result self.new }
         ensures lists { ListsSome self.new result (related_head up id.0 (world self.old)) }
     {
         match Place::from(id) {
@@ -294,8 +309,10 @@ impl Arena<'_> {
 
     // The functions over the ranges found.
     fn over_function(&mut self, id: InferSortId, ranges: Listed) -> Result<Listed, Full>
-        requires { FunctionAt self.old.sorts.now self.old.nodes.now self.old.lengths id.0 }
+        requires fine { FunctionAt self.old.sorts.now self.old.nodes.now self.old.lengths id.0 }
+        requires indexed { Indexes self.old }
         ensures keeps { Keeps self.old self.new }
+        ensures indexed { IndexesOn result self.new }
         ensures lists { Lists self.new result
             (over_function id.0 (places ranges) (world self.old)) }
     {
@@ -309,8 +326,10 @@ impl Arena<'_> {
     // kept: by index from the back: over `iter().rev()` the index is the length less the number of those yielded, and
     // the invariant has to say besides that these are the last functions, the last of them first.
     fn over_functions(&mut self, functions: &[u16], found: Listed) -> Result<Listed, Full>
-        requires { AllStand functions.now (length functions.now) (made (places found) (world self.old)) }
+        requires fine { AllStand functions.now (length functions.now) (made (places found) (world self.old)) }
+        requires indexed { Indexes self.old }
         ensures keeps { Keeps self.old self.new }
+        ensures indexed { IndexesOn result self.new }
         ensures lists { Lists self.new result
             (outwards functions.now (length functions.now) (made (places found) (world self.old))) }
     {
@@ -332,11 +351,13 @@ impl Arena<'_> {
         id: InferSortId,
         up: bool,
     ) -> Result<Option<Listed>, Full>
-        requires { ReadyIn self.old binds.now
+        requires fine { ReadyIn self.old binds.now
             × PlacedIn self.old id.0
             × SixThere self.old.lengths
             × FunctionAt self.old.sorts.now self.old.nodes.now self.old.lengths id.0 }
+        requires indexed { Indexes self.old }
         ensures keeps { Keeps self.old self.new }
+        ensures indexed { IndexesOn result self.new }
         ensures lists { ListsSome self.new result
             (strict_related up (binds_of binds.now self.old.lengths.variables) id.0 (world self.old)) }
     {
@@ -363,8 +384,10 @@ impl Arena<'_> {
         id: InferSortId,
         up: bool,
     ) -> Result<Option<Listed>, Full>
-        requires { ReadyIn self.old binds.now × PlacedIn self.old id.0 × SixThere self.old.lengths }
+        requires fine { ReadyIn self.old binds.now × PlacedIn self.old id.0 × SixThere self.old.lengths }
+        requires indexed { Indexes self.old }
         ensures keeps { Keeps self.old self.new }
+        ensures indexed { IndexesOn result self.new }
         ensures lists { ListsSome self.new result
             (strict_related up (binds_of binds.now self.old.lengths.variables) id.0 (world self.old)) }
     {
@@ -384,8 +407,10 @@ impl Arena<'_> {
         binds: &[u16],
         id: InferSortId,
     ) -> Result<Option<Listed>, Full>
-        requires { ReadyIn self.old binds.now × PlacedIn self.old id.0 × SixThere self.old.lengths }
+        requires fine { ReadyIn self.old binds.now × PlacedIn self.old id.0 × SixThere self.old.lengths }
+        requires indexed { Indexes self.old }
         ensures keeps { Keeps self.old self.new }
+        ensures indexed { IndexesOn result self.new }
         ensures lists { ListsSome self.new result
             (strict_related true (binds_of binds.now self.old.lengths.variables) id.0 (world self.old)) }
     {
@@ -399,8 +424,10 @@ impl Arena<'_> {
         binds: &[u16],
         id: InferSortId,
     ) -> Result<Option<Listed>, Full>
-        requires { ReadyIn self.old binds.now × PlacedIn self.old id.0 × SixThere self.old.lengths }
+        requires fine { ReadyIn self.old binds.now × PlacedIn self.old id.0 × SixThere self.old.lengths }
+        requires indexed { Indexes self.old }
         ensures keeps { Keeps self.old self.new }
+        ensures indexed { IndexesOn result self.new }
         ensures lists { ListsSome self.new result
             (strict_related false (binds_of binds.now self.old.lengths.variables) id.0 (world self.old)) }
     {

@@ -4,6 +4,7 @@
 
 ghost use Rattle.std.specs.Prelude.{◌≡◌, [], ◌∷◌, ◌++◌, ◌<◌, Some, None};
 ghost use Rattle.resolved_sort.specs.Rows.{left_at};
+ghost use Rattle.resolved_sort.specs.Index.{Indexed};
 ghost use Rattle.unification.specs.Term.{function_head, app};
 ghost use Rattle.unification.specs.Nodes.{binds_of, node_entries_of};
 ghost use Rattle.unification.specs.Unify.{follow, deep};
@@ -61,8 +62,11 @@ impl Resolver<'_> {
         interner: &mut SortInterner,
         id: InferSortId,
     ) -> Result<Option<SortId>, NoRoom>
-        requires { CanResolve self.now interner.old × PlacedAt self.now interner.old id.0 }
+        requires ready { CanResolve self.now interner.old × PlacedAt self.now interner.old id.0 }
+        requires indexed { Indexed interner.old.words.now interner.old.counts.sorts interner.old.index.now }
         ensures same_reference { interner.new.words.ghost_name ≡ interner.old.words.ghost_name }
+        ensures same_index { interner.new.index.ghost_name ≡ interner.old.index.ghost_name }
+        ensures indexed { Indexed interner.new.words.now interner.new.counts.sorts interner.new.index.now }
         ensures resolved { left_at interner.new.words.now interner.new.counts result
             ≡ resolved self.now interner.old (value_at self.now interner.old id.0) }
     {
@@ -92,10 +96,13 @@ impl Resolver<'_> {
         domain: Run,
         range: InferSortId,
     ) -> Result<Option<SortId>, NoRoom>
-        requires { CanResolve self.now interner.old
+        requires ready { CanResolve self.now interner.old
             × RunPlaced self.now.nodes.now (lengths_in self.now interner.old) domain.start domain.count
             × PlacedAt self.now interner.old range.0 }
+        requires indexed { Indexed interner.old.words.now interner.old.counts.sorts interner.old.index.now }
         ensures same_reference { interner.new.words.ghost_name ≡ interner.old.words.ghost_name }
+        ensures same_index { interner.new.index.ghost_name ≡ interner.old.index.ghost_name }
+        ensures indexed { Indexed interner.new.words.now interner.new.counts.sorts interner.new.index.now }
         ensures resolved { left_at interner.new.words.now interner.new.counts result
             ≡ resolved self.now interner.old
             (app (function_head domain.count)

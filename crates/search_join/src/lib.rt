@@ -7,13 +7,15 @@ ghost use Rattle.std.specs.Prelude.{◌≡◌, true, List, ℕ, ◌∷◌, ◌+�
 ghost use Rattle.std.proofs.lemmas.List.Edits.{sets};
 ghost use Rattle.resolved_sort.specs.Order.{distance};
 ghost use Rattle.resolved_sort.specs.Entries.{tree_at};
-ghost use Rattle.resolved_sort.specs.Rows.{AllBelow};
-ghost use Rattle.resolved_sort.specs.Bounds.{Asked};
+ghost use Rattle.resolved_sort.specs.Rows.{AllBelow, left_at};
+ghost use Rattle.resolved_sort.specs.Bounds.{Asked, bound_at};
+ghost use Rattle.resolved_sort.specs.Index.{Indexed};
 ghost use Rattle.resolved_sort.specs.Inner.Storage.{sort_numbers};
 ghost use Rattle.std.specs.Prelude.{None};
 ghost use Rattle.unification.specs.Nodes.{binds_of};
 ghost use Rattle.unification.specs.Checked.{Ready, Placed};
-ghost use Rattle.unification.specs.Resolve.{DefaultBelow};
+ghost use Rattle.unification.specs.Resolve.{DefaultBelow, term_resolved, with_counts};
+ghost use Rattle.unification.specs.Inner.Resolve.{value_in};
 ghost use Rattle.unification.specs.Related.{each};
 ghost use Rattle.unification.specs.Making.{Lent};
 ghost use Rattle.unification.specs.Inner.Making.{lent};
@@ -22,7 +24,7 @@ ghost use Rattle.inference.specs.Search.{resolve_in, join_in, resolve_all, join_
 ghost use Rattle.inference.specs.Search.{agreed as agreedOn, join_of};
 ghost use Rattle.search_state.specs.Inner.Memory.{source_at, measure_at};
 ghost use Rattle.search_state.specs.Inner.Leaves.{made_of, extracted_of, AgreesOn};
-ghost use Rattle.search_state.specs.Inner.Solving.{Agreeing, KeepsRest, OnlySorts, lent_of};
+ghost use Rattle.search_state.specs.Inner.Solving.{Agreeing, KeepsRest, OnlySorts, lent_of, Indexes, IndexesOn};
 ghost use Rattle.search_join.specs.Inner.Sources.{Sources, Resolved, HasSorts};
 
 use inference::MAX_SOURCES;
@@ -36,6 +38,36 @@ use sort_order::{is_materializable, widening_distance};
 use unification::InferSortId;
 use words::put;
 
+// The sort of a place, from sorts and their index apart, with the counts then.
+// kept: the slices of a Search apart: of an interner made of two of them, where that Search is written again, no proof
+// is generated.
+fn sort_over(
+    resolver: &Resolver<'_>,
+    words: &mut [u16],
+    index: &mut [u16],
+    counts: Counts,
+    id: InferSortId,
+) -> (Result<Option<SortId>, NoRoom>, Counts)
+    requires ready { Ready words.old resolver.now.nodes.now resolver.now.binds.now
+        (with_counts resolver.now.lengths counts)
+        × DefaultBelow counts.sorts resolver.now.default
+        × Placed (with_counts resolver.now.lengths counts) id.0 }
+    requires indexed { Indexed words.old counts.sorts index.old }
+    ensures indexed { Indexed words.new result.1.sorts index.new }
+    ensures resolved { left_at words.new result.1 result.0
+        ≡ term_resolved words.old (with_counts resolver.now.lengths counts) resolver.now.default
+        (value_in words.old resolver.now.nodes.now resolver.now.binds.now
+        (with_counts resolver.now.lengths counts) id.0) }
+{
+    let mut interner = SortInterner {
+        words,
+        index,
+        counts,
+    };
+    let sort = resolver.resolve(&mut interner, id);
+    (sort, interner.counts)
+}
+
 // The sort of a place, where the default stands for a variable that is free. Nothing where one is and there is no
 // default.
 pub fn sort_of(
@@ -43,17 +75,20 @@ pub fn sort_of(
     default: Option<SortId>,
     id: InferSortId,
 ) -> Result<Option<SortId>, NoRoom>
-    requires { Ready search.old.sorts.now search.old.nodes.now search.old.binds.now search.old.lengths
+    requires ready { Ready search.old.sorts.now search.old.nodes.now search.old.binds.now search.old.lengths
         × DefaultBelow search.old.lengths.sorts default
         × Placed search.old.lengths id.0 }
-    ensures { (made_of search.new.sorts.now search.old.nodes.now search.new.lengths result
+    requires indexed { Indexes search.old }
+    ensures resolved { (made_of search.new.sorts.now search.old.nodes.now search.new.lengths result
         ≡ resolve_in default (binds_of search.old.binds.now search.old.lengths.variables) id.0
         (lent_of search.old))
         × OnlySorts search.old search.new }
+    ensures indexed { IndexesOn result search.new }
 {
     let lengths = search.lengths;
     let counts = Counts::from(lengths);
     let words = &mut *search.sorts;
+    let index = &mut *search.index;
     let nodes = &mut *search.nodes;
     let binds = &mut *search.binds;
     let resolver = Resolver {
@@ -62,28 +97,55 @@ pub fn sort_of(
         lengths,
         default,
     };
-    let mut interner = SortInterner { words, counts };
-    let sort = resolver.resolve(&mut interner, id)?;
-    search.lengths = lengths.with_counts(interner.counts);
+    let (sort, counts) = sort_over(&resolver, words, index, counts, id);
+    let sort = sort?;
+    search.lengths = lengths.with_counts(counts);
     Ok(sort)
+}
+
+// The join of two sorts, from sorts and their index apart, with the counts then.
+// kept: the slices of a Search apart, as in sort_over.
+fn join_over(
+    words: &mut [u16],
+    index: &mut [u16],
+    counts: Counts,
+    lhs: SortId,
+    rhs: SortId,
+) -> (Result<Option<SortId>, NoRoom>, Counts)
+    requires asked { Asked words.old counts.sorts counts.entries lhs.0 rhs.0 }
+    requires indexed { Indexed words.old counts.sorts index.old }
+    ensures indexed { Indexed words.new result.1.sorts index.new }
+    ensures left { left_at words.new result.1 result.0
+        ≡ bound_at true words.old counts.sorts counts.entries lhs.0 rhs.0 }
+{
+    let mut interner = SortInterner {
+        words,
+        index,
+        counts,
+    };
+    let sort = join(&mut interner, lhs, rhs);
+    (sort, interner.counts)
 }
 
 // The join of two sorts. It does not look at nodes, whatever they are.
 // kept: beside sort_of and intern_container: one function over a closure would ask, for each of resolve, join and
 // generic, that the closure answers by that definition from the words and counts that it is given, whatever they are.
 fn join_of(search: &mut Search<'_>, lhs: SortId, rhs: SortId) -> Result<Option<SortId>, NoRoom>
-    requires { Asked search.old.sorts.now search.old.lengths.sorts search.old.lengths.entries lhs.0
+    requires asked { Asked search.old.sorts.now search.old.lengths.sorts search.old.lengths.entries lhs.0
         rhs.0 }
-    ensures { ((ns : List ℕ)
+    requires indexed { Indexes search.old }
+    ensures joined { ((ns : List ℕ)
         → made_of search.new.sorts.now ns search.new.lengths result
         ≡ join_in lhs.0 rhs.0 (lent search.old.sorts.now ns search.old.lengths))
         × OnlySorts search.old search.new }
+    ensures indexed { IndexesOn result search.new }
 {
     let counts = Counts::from(search.lengths);
     let words = &mut *search.sorts;
-    let mut interner = SortInterner { words, counts };
-    let sort = join(&mut interner, lhs, rhs)?;
-    search.lengths = search.lengths.with_counts(interner.counts);
+    let index = &mut *search.index;
+    let (sort, counts) = join_over(words, index, counts, lhs, rhs);
+    let sort = sort?;
+    search.lengths = search.lengths.with_counts(counts);
     Ok(sort)
 }
 
@@ -93,14 +155,16 @@ fn resolve_sources(
     sources: Run,
     ids: &mut [SortId],
 ) -> Result<bool, NoRoom>
-    requires { Sources search.old.sorts.now search.old.nodes.now search.old.binds.now search.old.lists.now
+    requires sources { Sources search.old.sorts.now search.old.nodes.now search.old.binds.now search.old.lists.now
         (sort_numbers ids.old) search.old.lengths sources }
-    ensures { (extracted_of search.new.sorts.now search.old.nodes.now (sort_numbers ids.new) 0 sources.count
+    requires indexed { Indexes search.old }
+    ensures resolved { (extracted_of search.new.sorts.now search.old.nodes.now (sort_numbers ids.new) 0 sources.count
         search.new.lengths result
         ≡ resolve_all None (binds_of search.old.binds.now search.old.lengths.variables)
         (rows_from (source_at search.old.lists.now) sources.start sources.count)
         (lent_of search.old))
         × OnlySorts search.old search.new }
+    ensures indexed { IndexesOn result search.new }
 {
     for i in 0..sources.count {
         let source = source_at(search.lists, sources.start + i);
@@ -119,11 +183,13 @@ fn join_all(
     first: SortId,
     rest: &[SortId],
 ) -> Result<Option<SortId>, NoRoom>
-    requires { Resolved search.old.sorts.now search.old.lengths (first.0 ∷ sort_numbers rest.now) }
-    ensures { ((ns : List ℕ)
+    requires resolved { Resolved search.old.sorts.now search.old.lengths (first.0 ∷ sort_numbers rest.now) }
+    requires indexed { Indexes search.old }
+    ensures joined { ((ns : List ℕ)
         → made_of search.new.sorts.now ns search.new.lengths result
         ≡ join_all first.0 (sort_numbers rest.now) (lent search.old.sorts.now ns search.old.lengths))
         × OnlySorts search.old search.new }
+    ensures indexed { IndexesOn result search.new }
 {
     let mut lub = first;
     for id in rest {
@@ -186,14 +252,16 @@ fn put_heads(sorts: &Sorts, ids: &[SortId], lub: SortId, scratch: &mut [u16], me
 
 // The sort on which sorts agree, with the components that it costs.
 fn agreement(search: &mut Search<'_>, ids: &[SortId], at: Branch) -> Result<Option<SortId>, NoRoom>
-    requires { Resolved search.old.sorts.now search.old.lengths (sort_numbers ids.now)
+    requires resolved { Resolved search.old.sorts.now search.old.lengths (sort_numbers ids.now)
         × (at.measure + length ids.now ≤ max_components) }
-    ensures { ((ns : List ℕ)
+    requires indexed { Indexes search.old }
+    ensures agrees { ((ns : List ℕ)
         → AgreesOn ns search.old.scratch.now at (length ids.now)
         (agreedOn (sort_numbers ids.now) (lent search.old.sorts.now ns search.old.lengths))
         search.new.sorts.now search.new.scratch.now search.new.lengths result)
         × KeepsRest search.old search.new
         × (search.new.nodes.now ≡ search.old.nodes.now) }
+    ensures indexed { IndexesOn result search.new }
 {
     let Some((first, rest)) = ids.split_first() else {
         return Ok(None);
@@ -213,14 +281,16 @@ fn agreement(search: &mut Search<'_>, ids: &[SortId], at: Branch) -> Result<Opti
 
 // The sort on which the sources of a Join agree. Their head distances are written after the measure, as components.
 pub fn agreed(search: &mut Search<'_>, at: Branch, sources: Run) -> Result<Option<SortId>, NoRoom>
-    requires { Agreeing search.old at sources }
-    ensures { AgreesOn search.old.nodes.now search.old.scratch.now at sources.count
+    requires agreeing { Agreeing search.old at sources }
+    requires indexed { Indexes search.old }
+    ensures agrees { AgreesOn search.old.nodes.now search.old.scratch.now at sources.count
         (join_of (binds_of search.old.binds.now search.old.lengths.variables)
         (rows_from (source_at search.old.lists.now) sources.start sources.count)
         (lent_of search.old))
         search.new.sorts.now search.new.scratch.now search.new.lengths result
         × KeepsRest search.old search.new
         × (search.new.nodes.now ≡ search.old.nodes.now) }
+    ensures indexed { IndexesOn result search.new }
 {
     let mut ids = [SortId(0); MAX_SOURCES];
     if !resolve_sources(search, sources, &mut ids)? {

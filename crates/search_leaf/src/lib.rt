@@ -11,6 +11,7 @@ ghost use Rattle.inference.specs.SolveEntry.{nothing_met};
 ghost use Rattle.search_state.specs.Inner.Memory.{problem_in, best_sorts_at};
 ghost use Rattle.search_state.specs.Inner.Leaves.{Extracts};
 ghost use Rattle.search_state.specs.Inner.Solving.{AtLeaf, Comparable, Comes, KeepsRest, has_best, state_of, lent_of};
+ghost use Rattle.search_state.specs.Inner.Solving.{Indexes, IndexesOn};
 ghost use Rattle.search_leaf.specs.Inner.Leaf.{ranked_by, IsDominated, Readable, sorts_from};
 ghost use Rattle.search_leaf.specs.Inner.Leaf.{kept_as_best, Keepable};
 
@@ -59,14 +60,16 @@ pub fn dominated(search: &Search<'_>, at: Branch) -> bool
 // Such a variable is the element sort of `#[]`, of which only the length is seen. Giving it the default accepts such
 // lists, where an error about an underdetermined sort would be spurious.
 fn extract(search: &mut Search<'_>) -> Result<bool, NoRoom>
-    requires { Readable search.old.sorts.now search.old.nodes.now search.old.binds.now search.old.scratch.now
+    requires readable { Readable search.old.sorts.now search.old.nodes.now search.old.binds.now search.old.scratch.now
         search.old.lists.now search.old.sizes.default search.old.sizes.exprs search.old.lengths }
-    ensures { Extracts search.old.nodes.now search.old.scratch.now best_sorts_at search.old.sizes.exprs
+    requires indexed { Indexes search.old }
+    ensures extracts { Extracts search.old.nodes.now search.old.scratch.now best_sorts_at search.old.sizes.exprs
         (sorts_from search.old.binds.now search.old.lists.now search.old.sizes.default 0
         search.old.sizes.exprs (lent_of search.old))
         search.new.sorts.now search.new.scratch.now search.new.lengths result
         × KeepsRest search.old search.new
         × (search.new.nodes.now ≡ search.old.nodes.now) }
+    ensures indexed { IndexesOn result search.new }
 {
     let default = Some(search.sizes.default);
     for i in 0..search.sizes.exprs {
@@ -94,9 +97,11 @@ fn keep(scratch: &mut [u16], sizes: Sizes)
 // The leaf becomes the incumbent.
 // Its sorts are read out now and not at the end, because backtracking takes back the bindings that they are read from.
 fn replace(search: &mut Search<'_>, at: Branch) -> Result<bool, Full>
-    requires { AtLeaf search.old at }
-    ensures { Comes search.old at (λ ls z. replaceLeaf (Unit {0}) nothing_met (problem_in ls z))
+    requires at_leaf { AtLeaf search.old at }
+    requires indexed { Indexes search.old }
+    ensures comes { Comes search.old at (λ ls z. replaceLeaf (Unit {0}) nothing_met (problem_in ls z))
         search.new result }
+    ensures indexed { IndexesOn result search.new }
 {
     if !extract(search)? {
         return Ok(false);
@@ -110,9 +115,11 @@ fn replace(search: &mut Search<'_>, at: Branch) -> Result<bool, Full>
 // tie is ambiguous.
 // All leaves have the same number of components, one for each Sub, Lit and Join source, so their measures compare.
 pub fn leaf(search: &mut Search<'_>, at: Branch) -> Result<bool, Full>
-    requires { AtLeaf search.old at }
-    ensures { Comes search.old at (λ ls z. leafNext (Unit {0}) nothing_met (problem_in ls z))
+    requires at_leaf { AtLeaf search.old at }
+    requires indexed { Indexes search.old }
+    ensures comes { Comes search.old at (λ ls z. leafNext (Unit {0}) nothing_met (problem_in ls z))
         search.new result }
+    ensures indexed { IndexesOn result search.new }
 {
     match rank(search, at) {
         Ordering::Less => replace(search, at),

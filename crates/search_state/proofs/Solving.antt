@@ -6,7 +6,9 @@ use mathlib.Core.List.{List}
 use Prim.Native.Nat.{ℕ}
 use Rattle.std.specs.Prelude.{Option, Some, None, Result, Ok, Err}
 use Rattle.resolved_sort.specs.declared.NoRoom.{NoRoom}
+use Rattle.resolved_sort.specs.Index.{Indexed}
 use Rattle.std.specs.Result.{IsErr, IsErrAnd}
+use Rattle.unification.specs.declared.Lengths.{Lengths}
 use Rattle.unification.specs.declared.Full.{Full}
 use Rattle.unification.specs.declared.Full.TheVariants.{Sorts}
 use Rattle.search_state.specs.declared.Search.{Search}
@@ -16,10 +18,10 @@ use Rattle.search_state.specs.Inner.States.{Missed}
 use Rattle.search_state.specs.declared.Next.{Next}
 use Rattle.search_state.specs.declared.Pairs.{Pairs}
 use Rattle.search_state.specs.declared.Step.{Step}
-use Rattle.search_state.specs.Inner.Leaves.{with_lengths}
+use Rattle.search_state.specs.Inner.Leaves.{with_lengths, with_nodes}
 use Rattle.search_state.specs.Inner.Searching.{Searching as SearchingIn, Comes as ComesIn, trying}
 use Rattle.search_state.specs.Inner.Solving.{Given, Kept, Lists, Stays, OnlySorts, SameProblem, KeepsRest, OnlyBinds, has_best, is_tied, state_of, answer_of}
-use Rattle.search_state.specs.Inner.Solving.{Searching, Goes, Comes}
+use Rattle.search_state.specs.Inner.Solving.{Searching, Goes, Comes, Indexes, IndexesOn}
 
 -- From one struct to another: what is asked for of it, and what it comes to, by what stayed as it was.
 module _ (s t : Search) (e : Branch) where
@@ -92,6 +94,19 @@ module _ (s t : Search) (e : Branch) where
         subst (λ (x : Stays). ComesIn x.kept.given.lists x.kept.given.sizes t.sorts.now x.nodes x.kept.binds x.scratch (state_of t) e
         (trying x.kept.given.lists x.kept.given.sizes x.scratch e pairs step next) u.sorts.now u.nodes.now u.binds.now u.scratch.now
         (answer_of (state_of u) r)) p d.comes
+
+-- What keeps the lists keeps their index,
+module _ (s t : Search) (p : OnlyBinds s t) where
+  pub index_bound : Indexes s → Indexes t
+  index_bound i = subst (λ (l : Lists). Indexed l.sorts l.lengths.sorts l.index) (sym p) i
+
+  pub index_bound_on : {A E : Type 0} (r : Result A E) → IndexesOn r s → IndexesOn r t
+  index_bound_on (Ok a) i = index_bound i
+  index_bound_on (Err e) i = i
+
+-- and nodes given back are no sorts.
+pub index_given_back : (ws ix : List ℕ) (kept k n : Lengths) → n ≡ with_nodes kept k → Indexed ws k.sorts ix → Indexed ws n.sorts ix
+index_given_back ws ix kept k n e i = subst (λ (l : Lengths). Indexed ws l.sorts ix) (sym e) i
 
 -- an answer of a leaf, or of room that ended, is no miss
 pub found_not_missed : (k : State) (r : Result Bool Full) → r ≡ Ok true → (y : State) → answer_of k r ≡ Missed y → ⊥

@@ -27,16 +27,17 @@ pub struct Incumbent {
     pub tied: bool,
 }
 
-// What the search works on: the lent sorts, nodes and bindings with how much of them is in use, the scratch, the lists
-// of the problem with their sizes, and the incumbent. The scratch has room for its blocks at all times.
+// What the search works on: the lent sorts with their index, nodes and bindings with how much of them is in use, the
+// scratch, the lists of the problem with their sizes, and the incumbent. The scratch has room for its blocks at all times.
 // kept: free functions take it, since several crates work on it and none can write an impl for another's struct.
-// kept: four lent slices and no Storage: tried, and the words of a &mut slice in a struct within this one are lost to
+// kept: five lent slices and no Storage: tried, and the words of a &mut slice in a struct within this one are lost to
 // every fact where that struct's borrow ends.
 // kept: other facts (Searching, AtLeaf, Sized, CanTry, CanHandOut) are asked for by contracts, since each speaks of a
 // branch, a step or an output as well, or holds only at some points of a search.
 #[derive(Drop)]
 pub struct Search<'a> {
     pub sorts: &'a mut [u16],
+    pub index: &'a mut [u16],
     pub nodes: &'a mut [u16],
     pub binds: &'a mut [u16],
     pub scratch: &'a mut [u16],

@@ -3,15 +3,17 @@
 // solve_widening and solve_lit.
 #![tactic(auto)]
 
-ghost use Rattle.std.specs.Prelude.{◌≡◌, true, false, ◌+◌, ◌-◌, ◌<◌, ◌≤◌, take, length};
+ghost use Rattle.std.specs.Prelude.{◌≡◌, true, false, ◌+◌, ◌-◌, ◌<◌, ◌≤◌, take, length, OnOk};
 ghost use Rattle.resolved_sort.specs.Rows.{Checked};
+ghost use Rattle.resolved_sort.specs.Index.{Indexed};
 ghost use Rattle.unification.specs.Nodes.{binds_of};
 ghost use Rattle.unification.specs.Checked.{graph_of, Ready, Placed};
 ghost use Rattle.unification.specs.Trail.{UnifyLeaves, undo as undoOf};
 ghost use Rattle.unifier.specs.Inner.Trying.{Trying};
 ghost use Rattle.unifier.specs.Unifier.{graph, bindings, CanTry, Keeps, Leaves};
 ghost use Rattle.related_sorts.specs.Listed.{places};
-ghost use Rattle.related_sorts.specs.Arena.{world, ReadyIn, PlacedIn, Keeps as KeepsArena};
+ghost use Rattle.related_sorts.specs.Arena.{world, ReadyIn, PlacedIn, Keeps as KeepsArena, Indexes as ArenaIndexes};
+ghost use Rattle.related_sorts.specs.Arena.{IndexesOn as ArenaIndexesOn};
 ghost use Rattle.related_sorts.specs.Inner.Ranges.{SixThere};
 ghost use Rattle.unification.specs.Inner.Making.{lent};
 ghost use Rattle.inference.specs.Search.{lit_component};
@@ -21,7 +23,7 @@ ghost use Rattle.search_state.specs.Inner.Leaves.{with_nodes, try_at};
 ghost use Rattle.search_state.specs.Inner.Leaves.{widenings, FindsWidenings, lit_number, lit_at, unify_pairs};
 ghost use Rattle.search_state.specs.Inner.Leaves.{PairsPlaced, trail_after, is_made, TriesPairs, step_words, added_components, added_choices};
 ghost use Rattle.search_state.specs.Inner.Leaves.{branch_after};
-ghost use Rattle.search_state.specs.Inner.Solving.{KeepsRest, OnlyBinds, OnlyScratch, OnlySorts, lent_of};
+ghost use Rattle.search_state.specs.Inner.Solving.{KeepsRest, OnlyBinds, OnlyScratch, OnlySorts, lent_of, Indexes, IndexesOn};
 ghost use Rattle.search_steps.specs.Inner.Steps.{pairs_of, lit_row, LitTries, InternsContainer, ListedTries};
 
 use infer_nodes::{Bindings, Places};
@@ -31,7 +33,7 @@ use resolved_sort::{ComplexSort, Counts, NoRoom, ResolvedSort, Sort, SortId};
 use search_state::{
     Branch, CHOICES_AT, LitAt, MEASURE_AT, Pairs, Search, Step, TRAIL_WORDS, Tries,
 };
-use sort_interner::{SortInterner, Sorts};
+use sort_interner::{Sorts, generic_over};
 use sort_order::number_generality;
 use unification::{Full, InferSort, InferSortId, Lengths, Place};
 use unifier::{Unifier, undo};
@@ -309,17 +311,20 @@ pub fn intern_container(
     op: ComplexSort,
     element: SortId,
 ) -> Result<SortId, NoRoom>
-    requires { Checked search.old.sorts.now search.old.lengths.sorts search.old.lengths.entries
+    requires fine { Checked search.old.sorts.now search.old.lengths.sorts search.old.lengths.entries
         × (element.0 < search.old.lengths.sorts) }
-    ensures { InternsContainer op element.0 search.old.sorts.now search.old.lengths
+    requires indexed { Indexes search.old }
+    ensures interned { InternsContainer op element.0 search.old.sorts.now search.old.lengths
         search.new.sorts.now search.new.lengths result
         × OnlySorts search.old search.new }
+    ensures indexed { IndexesOn result search.new }
 {
     let counts = Counts::from(search.lengths);
     let words = &mut *search.sorts;
-    let mut interner = SortInterner { words, counts };
-    let id = interner.generic(op, element)?;
-    search.lengths = search.lengths.with_counts(interner.counts);
+    let index = &mut *search.index;
+    let (id, counts) = generic_over(words, index, counts, op, element);
+    let id = id?;
+    search.lengths = search.lengths.with_counts(counts);
     Ok(id)
 }
 
@@ -344,11 +349,13 @@ fn widenings_in(
     lhs: InferSortId,
     rhs: InferSortId,
 ) -> Result<Option<Tries>, Full>
-    requires { ReadyIn arena.old binds.now
+    requires ready { ReadyIn arena.old binds.now
         × PlacedIn arena.old lhs.0
         × PlacedIn arena.old rhs.0
         × SixThere arena.old.lengths }
+    requires indexed { ArenaIndexes arena.old }
     ensures keeps { KeepsArena arena.old arena.new }
+    ensures indexed { ArenaIndexesOn result arena.new }
     ensures finds { FindsWidenings arena.new.sorts.now arena.new.nodes.now arena.new.lengths result
         (widenings (binds_of binds.now arena.old.lengths.variables) lhs.0 rhs.0 (world arena.old)) }
 {
@@ -366,21 +373,25 @@ fn widenings_in(
 // which holds a ghost fact, is written again; with its lists in locals, or in a block, no proof is generated.
 pub fn widenings_over(
     sorts: &mut [u16],
+    index: &mut [u16],
     nodes: &mut [u16],
     binds: &[u16],
     lengths: Lengths,
     lhs: InferSortId,
     rhs: InferSortId,
 ) -> (Result<Option<Tries>, Full>, Lengths)
-    requires { Ready sorts.old nodes.old binds.now lengths
+    requires ready { Ready sorts.old nodes.old binds.now lengths
         × Placed lengths lhs.0
         × Placed lengths rhs.0
         × SixThere lengths }
-    ensures { FindsWidenings sorts.new nodes.new result.1 result.0
+    requires indexed { Indexed sorts.old lengths.sorts index.old }
+    ensures finds { FindsWidenings sorts.new nodes.new result.1 result.0
         (widenings (binds_of binds.now lengths.variables) lhs.0 rhs.0 (lent sorts.old nodes.old lengths)) }
+    ensures indexed { OnOk result.0 (Indexed sorts.new result.1.sorts index.new) }
 {
     let mut arena = Arena {
         sorts,
+        index,
         nodes,
         lengths,
     };
@@ -396,21 +407,24 @@ pub fn widenings_of(
     lhs: InferSortId,
     rhs: InferSortId,
 ) -> Result<Option<Tries>, Full>
-    requires { Ready search.old.sorts.now search.old.nodes.now search.old.binds.now search.old.lengths
+    requires ready { Ready search.old.sorts.now search.old.nodes.now search.old.binds.now search.old.lengths
         × Placed search.old.lengths lhs.0
         × Placed search.old.lengths rhs.0
         × SixThere search.old.lengths }
-    ensures { FindsWidenings search.new.sorts.now search.new.nodes.now search.new.lengths result
+    requires indexed { Indexes search.old }
+    ensures finds { FindsWidenings search.new.sorts.now search.new.nodes.now search.new.lengths result
         (widenings (binds_of search.old.binds.now search.old.lengths.variables) lhs.0 rhs.0
         (lent_of search.old))
         × KeepsRest search.old search.new
         × (search.new.scratch.now ≡ search.old.scratch.now) }
+    ensures indexed { IndexesOn result search.new }
 {
     let lengths = search.lengths;
     let sorts = &mut *search.sorts;
+    let index = &mut *search.index;
     let nodes = &mut *search.nodes;
     let binds = &mut *search.binds;
-    let (tries, lengths) = widenings_over(sorts, nodes, binds, lengths, lhs, rhs);
+    let (tries, lengths) = widenings_over(sorts, index, nodes, binds, lengths, lhs, rhs);
     search.lengths = lengths;
     tries
 }

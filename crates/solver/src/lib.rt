@@ -20,7 +20,7 @@ ghost use Rattle.search_state.specs.declared.Next.TheVariants.{Solve, Source};
 ghost use Rattle.search_state.specs.Inner.Memory.{overloads_at, source_at, problem_in, solve_from, next_of};
 ghost use Rattle.search_state.specs.Inner.Leaves.{PairsPlaced, added_components, tries_from};
 ghost use Rattle.search_state.specs.Inner.Searching.{SourcesFine, exprs_of, trying};
-ghost use Rattle.search_state.specs.Inner.Solving.{Searching, Comes, lent_of};
+ghost use Rattle.search_state.specs.Inner.Solving.{Searching, Comes, lent_of, Indexes, IndexesOn};
 ghost use Rattle.solver.specs.Inner.Asked.{TriesFine, OverloadsFine, exprs_of_constraint, readings_from};
 
 use inference::{Constraint, ExprId, LitKind};
@@ -65,8 +65,10 @@ const READINGS: [Reading; 3] = [
 // the branch is a value that each try changes, and what comes next stays through tries and changes between calls.
 #[cycle(search)]
 pub fn solve(search: &mut Search<'_>, at: Branch, index: u16) -> Result<bool, Full>
-    requires { Searching search.old at 0 [] (Solve index) }
-    ensures { Comes search.old at (λ ls z. solve_from ls z index) search.new result }
+    requires searching { Searching search.old at 0 [] (Solve index) }
+    requires indexed { Indexes search.old }
+    ensures comes { Comes search.old at (λ ls z. solve_from ls z index) search.new result }
+    ensures indexed { IndexesOn result search.new }
 {
     if dominated(search, at) {
         return Ok(false); // dropped, which counts as not found
@@ -86,14 +88,16 @@ fn solve_constraint(
     constraint: Constraint,
     then: u16,
 ) -> Result<bool, Full>
-    requires { Searching search.old at (components_of constraint) (exprs_of_constraint constraint)
+    requires searching { Searching search.old at (components_of constraint) (exprs_of_constraint constraint)
         (Solve then)
         × ListedConstraint (lent_of search.old)
         (problem_in search.old.lists.now search.old.sizes) constraint }
-    ensures { Comes search.old at
+    requires indexed { Indexes search.old }
+    ensures comes { Comes search.old at
         (λ ls z. step_of (Unit {0}) nothing_met (problem_in ls z) constraint
         (solve_from ls z then))
         search.new result }
+    ensures indexed { IndexesOn result search.new }
 {
     match constraint {
         Constraint::Sub { lhs, rhs } => solve_widening(search, at, lhs, rhs, Next::Solve(then)),
@@ -125,14 +129,16 @@ fn solve_join(
     target: InferSortId,
     then: u16,
 ) -> Result<bool, Full>
-    requires { Searching search.old at sources.count [] (Solve then)
+    requires searching { Searching search.old at sources.count [] (Solve then)
         × SourcesFine (lent_of search.old) search.old.lists.now search.old.sizes target.0
         sources.start (sources.start + sources.count) }
-    ensures { Comes search.old at
+    requires indexed { Indexes search.old }
+    ensures comes { Comes search.old at
         (λ ls z. joining (Unit {0}) nothing_met (problem_in ls z)
         (rows_from (source_at ls) sources.start sources.count) target.0
         (solve_from ls z then))
         search.new result }
+    ensures indexed { IndexesOn result search.new }
 {
     let start = sources.start;
     let count = sources.count;
@@ -159,12 +165,14 @@ fn solve_join_seq(
     to: u16,
     then: u16,
 ) -> Result<bool, Full>
-    requires { Searching search.old at 0 [] (Source target from to then) }
-    ensures { Comes search.old at
+    requires searching { Searching search.old at 0 [] (Source target from to then) }
+    requires indexed { Indexes search.old }
+    ensures comes { Comes search.old at
         (λ ls z. sequence (Unit {0}) nothing_met (problem_in ls z)
         (rows_from (source_at ls) from (to - from)) target.0
         (solve_from ls z then))
         search.new result }
+    ensures indexed { IndexesOn result search.new }
 {
     if to <= from {
         return solve(search, at, then);
@@ -190,14 +198,16 @@ fn solve_disjunction(
     disjuncts: Run,
     next: Next,
 ) -> Result<bool, Full>
-    requires { Searching search.old at 0 (expr.0 ∷ []) next
+    requires searching { Searching search.old at 0 (expr.0 ∷ []) next
         × OverloadsFine (lent_of search.old) search.old.lists.now search.old.sizes sort.0
         disjuncts.start disjuncts.count }
-    ensures { Comes search.old at
+    requires indexed { Indexes search.old }
+    ensures comes { Comes search.old at
         (λ ls z. every_overload (Unit {0}) nothing_met (problem_in ls z) expr.0 sort.0
         (rows_from (overload_at (drop overloads_at ls)) disjuncts.start disjuncts.count)
         0 false (next_of ls z next))
         search.new result }
+    ensures indexed { IndexesOn result search.new }
 {
     let mut found = false;
     for i in 0..disjuncts.count {
@@ -221,14 +231,16 @@ fn solve_comprehension(
     element: SortId,
     next: Next,
 ) -> Result<bool, Full>
-    requires { Searching search.old at 0 [] next
+    requires searching { Searching search.old at 0 [] next
         × (Placed search.old.lengths body.0)
         × (Placed search.old.lengths node.0)
         × (element.0 < search.old.lengths.sorts) }
-    ensures { Comes search.old at
+    requires indexed { Indexes search.old }
+    ensures comes { Comes search.old at
         (λ ls z. every_reading (Unit {0}) nothing_met (problem_in ls z) (readings_from 0)
         body.0 node.0 element.0 false (next_of ls z next))
         search.new result }
+    ensures indexed { IndexesOn result search.new }
 {
     let mut found = false;
     for reading in READINGS {
@@ -254,13 +266,15 @@ fn solve_widening(
     rhs: InferSortId,
     next: Next,
 ) -> Result<bool, Full>
-    requires { Searching search.old at 1 [] next
+    requires searching { Searching search.old at 1 [] next
         × Placed search.old.lengths lhs.0
         × Placed search.old.lengths rhs.0 }
-    ensures { Comes search.old at
+    requires indexed { Indexes search.old }
+    ensures comes { Comes search.old at
         (λ ls z. widening (Unit {0}) nothing_met (problem_in ls z) lhs.0 rhs.0
         (next_of ls z next))
         search.new result }
+    ensures indexed { IndexesOn result search.new }
 {
     if attempt(search, at, Pairs::One(lhs, rhs), Step::Component(0), next)? {
         return Ok(true);
@@ -287,11 +301,13 @@ fn solve_lit(
     kind: LitKind,
     next: Next,
 ) -> Result<bool, Full>
-    requires { Searching search.old at 1 [] next × Placed search.old.lengths sort.0 }
-    ensures { Comes search.old at
+    requires searching { Searching search.old at 1 [] next × Placed search.old.lengths sort.0 }
+    requires indexed { Indexes search.old }
+    ensures comes { Comes search.old at
         (λ ls z. literal (Unit {0}) nothing_met (problem_in ls z) kind sort.0
         (next_of ls z next))
         search.new result }
+    ensures indexed { IndexesOn result search.new }
 {
     match lit_at(search, sort, kind) {
         LitAt::Number(generality) => {
@@ -307,11 +323,13 @@ fn solve_lit(
 // kept: by number, since the component of a try is its number from `first` on, and `ids` has places past the last try.
 #[cycle(search)]
 fn tries(search: &mut Search<'_>, at: Branch, t: Tries, next: Next) -> Result<bool, Full>
-    requires { Searching search.old at 1 [] next × TriesFine (lent_of search.old) t 0 }
-    ensures { Comes search.old at
+    requires searching { Searching search.old at 1 [] next × TriesFine (lent_of search.old) t 0 }
+    requires indexed { Indexes search.old }
+    ensures comes { Comes search.old at
         (λ ls z. first_found (Unit {0}) nothing_met (problem_in ls z) (tries_from t 0)
         (next_of ls z next))
         search.new result }
+    ensures indexed { IndexesOn result search.new }
 {
     for j in 0..t.count {
         let component = try_component(t, j);
@@ -339,12 +357,14 @@ fn attempt(
     step: Step,
     next: Next,
 ) -> Result<bool, Full>
-    requires { Searching search.old at (added_components step)
+    requires searching { Searching search.old at (added_components step)
         (exprs_of search.old.lists.now search.old.sizes at step) next
         × PairsPlaced search.old.lengths pairs }
-    ensures { Comes search.old at
+    requires indexed { Indexes search.old }
+    ensures comes { Comes search.old at
         (λ ls z. trying ls z search.old.scratch.now at pairs step next)
         search.new result }
+    ensures indexed { IndexesOn result search.new }
 {
     let base = at.trail;
     let Some(count) = unify_pairs(search, base, pairs) else {
@@ -359,8 +379,10 @@ fn attempt(
 // What comes next.
 #[cycle(search)]
 fn resume(search: &mut Search<'_>, at: Branch, next: Next) -> Result<bool, Full>
-    requires { Searching search.old at 0 [] next }
-    ensures { Comes search.old at (λ ls z. next_of ls z next) search.new result }
+    requires searching { Searching search.old at 0 [] next }
+    requires indexed { Indexes search.old }
+    ensures comes { Comes search.old at (λ ls z. next_of ls z next) search.new result }
+    ensures indexed { IndexesOn result search.new }
 {
     match next {
         Next::Solve(index) => solve(search, at, index),

@@ -1,6 +1,6 @@
--- The loop by the laws of reading out. Assumes nothing.
+-- The loop by the laws of reading out; the index stays that of the sorts. Assumes nothing.
 use Rattle.std.proofs.Common.{◌≡◌}
-use Rattle.search_state.specs.Inner.Solving.{KeepsRest}
+use Rattle.search_state.specs.Inner.Solving.{KeepsRest, Indexes}
 use Rattle.search_leaf.proofs.Readings.{Extracting}
 use Rattle.search_leaf.proofs.extract.Given as goal
 
@@ -11,3 +11,4 @@ invariant-loop-i l =
     l.search.lengths l.i
     × KeepsRest l.initial.search l.search
     × (l.search.nodes.now ≡ l.initial.search.nodes.now)
+    × Indexes l.search

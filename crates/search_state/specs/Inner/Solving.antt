@@ -1,6 +1,7 @@
 -- What a function of the search asks for of its struct, and what it leaves.
-use Rattle.std.specs.Prelude.{◌≡◌, Bool, true, false, List, ℕ, Option, Some, None, Result, Ok, Err}
+use Rattle.std.specs.Prelude.{◌≡◌, Bool, true, false, List, ℕ, Option, Some, None, Result, Ok, Err, OnOk}
 use Rattle.resolved_sort.specs.declared.Run.{Run}
+use Rattle.resolved_sort.specs.Index.{Indexed}
 use Rattle.unification.specs.declared.Lengths.{Lengths}
 use Rattle.unification.specs.declared.Full.{Full}
 use Rattle.unification.specs.Making.{Lent}
@@ -40,6 +41,14 @@ answer_of k (Err full) = Ended (code_of full) k.lengths
 abbrev pub lent_of : Search → Lent
 lent_of s = lent s.sorts.now s.nodes.now s.lengths
 
+-- the index is that of the sorts
+abbrev pub Indexes : Search → Type 0
+Indexes s = Indexed s.sorts.now s.lengths.sorts s.index.now
+
+-- and after a call, where no room ended
+abbrev pub IndexesOn : {A E : Type 0} → Result A E → Search → Type 0
+IndexesOn r s = OnOk r (Indexes s)
+
 -- a branch on which, after `more` components and choices for the expressions xs, comes `next`
 abbrev pub Searching : Search → Branch → ℕ → List ℕ → Next → Type 0
 Searching s e more xs next =
@@ -62,6 +71,7 @@ pub record Given : Type 0 where
   pub lists : List ℕ
   pub sizes : Sizes
   pub sorts : ℕ
+  pub index : ℕ
   pub nodes : ℕ
   pub binds : ℕ
   pub scratch : ℕ
@@ -72,6 +82,7 @@ given_of s =
       lists = s.lists.now;
       sizes = s.sizes;
       sorts = s.sorts.ghost_name;
+      index = s.index.ghost_name;
       nodes = s.nodes.ghost_name;
       binds = s.binds.ghost_name;
       scratch = s.scratch.ghost_name;
@@ -92,7 +103,7 @@ kept_of s = record { given = given_of s; binds = s.binds.now; best = s.best }
 abbrev pub KeepsRest : Search → Search → Type 0
 KeepsRest s s' = kept_of s' ≡ kept_of s
 
--- with the nodes and the scratch: all but the sorts
+-- with the nodes and the scratch: all but the sorts and their index
 pub record Stays : Type 0 where
   pub kept : Kept
   pub nodes : List ℕ
@@ -108,12 +119,21 @@ OnlySorts s s' = stays_of s' ≡ stays_of s
 pub record Lists : Type 0 where
   pub given : Given
   pub sorts : List ℕ
+  pub index : List ℕ
   pub nodes : List ℕ
   pub lengths : Lengths
   pub best : Option Incumbent
 
 abbrev pub lists_of : Search → Lists
-lists_of s = record { given = given_of s; sorts = s.sorts.now; nodes = s.nodes.now; lengths = s.lengths; best = s.best }
+lists_of s =
+    record {
+      given = given_of s;
+      sorts = s.sorts.now;
+      index = s.index.now;
+      nodes = s.nodes.now;
+      lengths = s.lengths;
+      best = s.best;
+    }
 
 abbrev pub OnlyBinds : Search → Search → Type 0
 OnlyBinds s s' = lists_of s' ≡ lists_of s

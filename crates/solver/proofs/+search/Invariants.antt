@@ -1,6 +1,7 @@
 -- The search, one cycle of eleven functions: the work left falls with each call. The loops' invariants: what is left of the alternatives comes to the
--- whole. Assumes nothing.
+-- whole, and the index is that of the sorts. Assumes nothing.
 use Rattle.std.proofs.Common.{◌+◌, ◌*◌, ◌-◌}
+use Rattle.search_state.specs.Inner.Solving.{Indexes}
 use Rattle.solver.proofs.Ways.{work}
 use Rattle.solver.proofs.Structs.{TriesLeft, ReadingsLeft, OverloadsLeft}
 use Rattle.solver.proofs.+search.Given as goal
@@ -40,11 +41,12 @@ decreases-tries l = work l.search.now.sizes.constraints l.next + 3
 
 abbrev pub invariant-solve_comprehension-loop-reading : goal.invariant-solve_comprehension-loop-reading
 invariant-solve_comprehension-loop-reading l =
-    ReadingsLeft l.initial.search l.at l.body l.node l.element l.next l.search l.reading-index l.found
+    record { left : ReadingsLeft l.initial.search l.at l.body l.node l.element l.next l.search l.reading-index l.found; indexed : Indexes l.search }
 
 abbrev pub invariant-solve_disjunction-loop-i : goal.invariant-solve_disjunction-loop-i
 invariant-solve_disjunction-loop-i l =
-    OverloadsLeft l.initial.search l.at l.fn.expr l.sort l.disjuncts l.next l.search l.i l.found
+    record { left : OverloadsLeft l.initial.search l.at l.fn.expr l.sort l.disjuncts l.next l.search l.i l.found; indexed : Indexes l.search }
 
 abbrev pub invariant-tries-loop-j : goal.invariant-tries-loop-j
-invariant-tries-loop-j l = TriesLeft l.initial.search l.at l.t l.next l.search l.j
+invariant-tries-loop-j l =
+    record { left : TriesLeft l.initial.search l.at l.t l.next l.search l.j; indexed : Indexes l.search }
