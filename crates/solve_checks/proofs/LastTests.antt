@@ -10,6 +10,7 @@ use Rattle.std.specs.Prelude.{Ok, Err}
 use Rattle.resolved_sort.specs.declared.Refusal.{Refusal}
 use Rattle.resolved_sort.specs.declared.Refusal.TheVariants.{BadJoin, NotInList, TooShort}
 use Rattle.resolved_sort.specs.Storage.{full_length}
+use Rattle.resolved_sort.specs.Index.{slots}
 use Rattle.resolved_sort.specs.Checks.{Check, Tested, first_failing}
 use Rattle.unification.specs.Nodes.{full_nodes}
 use Rattle.inference.specs.Constraints.{max_components}
@@ -29,8 +30,11 @@ after_measure I = one TooShort (leb (choice_words * length (disjunctions (given 
 abbrev after_typing : Call → List Check
 after_typing I = one TooShort (leb (components (given I)) (length I.measure)) ∷ after_measure I
 
+abbrev after_index : Call → List Check
+after_index I = one TooShort (leb (typing_words * I.rows.exprs) (length I.typing)) ∷ after_typing I
+
 abbrev after_scratch : Call → List Check
-after_scratch I = one TooShort (leb (typing_words * I.rows.exprs) (length I.typing)) ∷ after_typing I
+after_scratch I = one TooShort (leb slots (length I.index)) ∷ after_index I
 
 abbrev after_nodes : Call → List Check
 after_nodes I = one TooShort (leb scratch_words (length I.scratch)) ∷ after_scratch I
@@ -109,23 +113,30 @@ module _ (s : Storage) (p : Problem) (room : Room) (o : Outs room) where
                     past_scratch : {u : Tested} → u ≡ first_failing (after_scratch I) → u ≡ first_failing (last_checks I)
                     past_scratch {u} w = past_nodes (gone_on _ _ _ (ap (leb scratch_words) (sym o.scratch_length)) _ scratch_pass u w)
 
-                    pub typing_refused : Fails TooShort (leb (typing_words * p.given.exprs) room.typing)
-                    typing_refused d f = past_scratch (refused _ _ _ (ap (leb (typing_words * p.given.exprs)) (sym o.typing_length)) _ d f)
+                    pub index_refused : Fails TooShort (leb slots room.index)
+                    index_refused d f = past_scratch (refused _ _ _ (ap (leb slots) (sym o.index_length)) _ d f)
 
-                    module _ (typing_pass : Passes TooShort (leb (typing_words * p.given.exprs) room.typing)) where
-                      past_typing : {u : Tested} → u ≡ first_failing (after_typing I) → u ≡ first_failing (last_checks I)
-                      past_typing {u} w = past_scratch (gone_on _ _ _ (ap (leb (typing_words * p.given.exprs)) (sym o.typing_length)) _ typing_pass u w)
+                    module _ (index_pass : Passes TooShort (leb slots room.index)) where
+                      past_index : {u : Tested} → u ≡ first_failing (after_index I) → u ≡ first_failing (last_checks I)
+                      past_index {u} w = past_scratch (gone_on _ _ _ (ap (leb slots) (sym o.index_length)) _ index_pass u w)
 
-                      pub measure_refused : Fails TooShort (leb parts room.measure)
-                      measure_refused d f = past_typing (refused _ _ _ measured _ d f)
+                      pub typing_refused : Fails TooShort (leb (typing_words * p.given.exprs) room.typing)
+                      typing_refused d f = past_index (refused _ _ _ (ap (leb (typing_words * p.given.exprs)) (sym o.typing_length)) _ d f)
 
-                      module _ (measure_pass : Passes TooShort (leb parts room.measure)) where
-                        past_measure : {u : Tested} → u ≡ first_failing (after_measure I) → u ≡ first_failing (last_checks I)
-                        past_measure {u} w = past_typing (gone_on _ _ _ measured _ measure_pass u w)
+                      module _ (typing_pass : Passes TooShort (leb (typing_words * p.given.exprs) room.typing)) where
+                        past_typing : {u : Tested} → u ≡ first_failing (after_typing I) → u ≡ first_failing (last_checks I)
+                        past_typing {u} w = past_index (gone_on _ _ _ (ap (leb (typing_words * p.given.exprs)) (sym o.typing_length)) _ typing_pass u w)
 
-                        pub choices_decide : (choices : ℕ) → choices ≡ length (disjunctions (constraint_rows p.constraints.now n))
-                            → {t : Tested} → t ≡ first_failing (one TooShort (leb choices (room.choices / 2)) ∷ []) → t ≡ first_failing (last_checks I)
-                        choices_decide choices e {t} f =
-                            past_measure
-                            (found TooShort _ _ (half choices room.choices ∙ ap₂ (λ (d m : ℕ). leb (2 * d) m)
-                            (choices_counted p n counted choices e) (sym o.choices_length)) t f)
+                        pub measure_refused : Fails TooShort (leb parts room.measure)
+                        measure_refused d f = past_typing (refused _ _ _ measured _ d f)
+
+                        module _ (measure_pass : Passes TooShort (leb parts room.measure)) where
+                          past_measure : {u : Tested} → u ≡ first_failing (after_measure I) → u ≡ first_failing (last_checks I)
+                          past_measure {u} w = past_typing (gone_on _ _ _ measured _ measure_pass u w)
+
+                          pub choices_decide : (choices : ℕ) → choices ≡ length (disjunctions (constraint_rows p.constraints.now n))
+                              → {t : Tested} → t ≡ first_failing (one TooShort (leb choices (room.choices / 2)) ∷ []) → t ≡ first_failing (last_checks I)
+                          choices_decide choices e {t} f =
+                              past_measure
+                              (found TooShort _ _ (half choices room.choices ∙ ap₂ (λ (d m : ℕ). leb (2 * d) m)
+                              (choices_counted p n counted choices e) (sym o.choices_length)) t f)

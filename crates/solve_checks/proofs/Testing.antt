@@ -10,6 +10,7 @@ use Rattle.std.specs.Prelude.{Ok, Err}
 use Rattle.resolved_sort.specs.declared.Refusal.{Refusal}
 use Rattle.resolved_sort.specs.declared.Refusal.TheVariants.{NotLent, BadExpression, BadConstraint, TwoForOne, BadJoin, NotInList, TooShort}
 use Rattle.resolved_sort.specs.Storage.{full_length}
+use Rattle.resolved_sort.specs.Index.{slots, index_long}
 use Rattle.resolved_sort.specs.Checks.{Check, Tested, first_failing, at_ceiling, sort_row_checks, sort_checks}
 use Rattle.resolved_sort.proofs.FirstFailing.{first_passes, cons_passes}
 use Rattle.resolved_sort.proofs.Testing.{first_refuses, second_decides}
@@ -76,16 +77,18 @@ module _ (I : Call) where
       one BadJoin (joins_fine (given I)) ∷ one BadJoin (leb (components (given I)) max_components)
       ∷ one NotInList (listed I I.default) ∷ one TooShort (leb full_length (length I.sorts))
       ∷ one TooShort (leb full_nodes (length I.nodes)) ∷ one TooShort (leb scratch_words (length I.scratch))
+      ∷ one TooShort (leb slots (length I.index))
       ∷ one TooShort (leb (typing_words * I.rows.exprs) (length I.typing))
       ∷ one TooShort (leb (components (given I)) (length I.measure))
       ∷ one TooShort (leb (choice_words * length (disjunctions (given I))) (length I.choices)) ∷ []
 
   pub last_tests_are : first_failing last_tests ≡ first_failing (last_checks I)
-  unfolding long_enough at_ceiling outputs_long
+  unfolding long_enough at_ceiling outputs_long index_long
   last_tests_are =
       let a = leb full_length (length I.sorts) in
       let b = leb full_nodes (length I.nodes) in
       let c = leb scratch_words (length I.scratch) in
+      let x = leb slots (length I.index) in
       let d = leb (typing_words * I.rows.exprs) (length I.typing) in
       let e = leb (components (given I)) (length I.measure) in
       let f = leb (choice_words * length (disjunctions (given I))) (length I.choices) in
@@ -93,9 +96,10 @@ module _ (I : Call) where
       ∙ after (one BadJoin (joins_fine (given I) && leb (components (given I)) max_components)) _ _
       (after (one NotInList (listed I I.default)) _ _
       (after (one TooShort a) _ _
-      (after (one TooShort b) _ _ (two_are_one TooShort c d _ ∙ (two_are_one TooShort (c && d) e _ ∙ two_are_one TooShort (c && d && e) f []))
-      ∙ two_are_one TooShort b (c && d && e && f) [])
-      ∙ (two_are_one TooShort a (b && (c && d && e && f)) [] ∙ ap (λ z. first_failing (one TooShort z ∷ [])) (sym (and_assoc a b (c && d && e && f))))))
+      (after (one TooShort b) _ _ (two_are_one TooShort c x _ ∙ (two_are_one TooShort (c && x) d _
+      ∙ (two_are_one TooShort (c && x && d) e _ ∙ two_are_one TooShort (c && x && d && e) f [])))
+      ∙ two_are_one TooShort b (c && x && d && e && f) [])
+      ∙ (two_are_one TooShort a (b && (c && x && d && e && f)) [] ∙ ap (λ z. first_failing (one TooShort z ∷ [])) (sym (and_assoc a b (c && x && d && e && f))))))
 
 -- what a check does not look at
 module _ (s : Storage) (p : Problem) (room : Room) (o : Outs room) where

@@ -28,9 +28,9 @@ rows_of g =
 
 abbrev pub call_of :
     Given
-    → (sorts nodes binds exprs names constraints overloads sources scratch typing measure choices : List ℕ)
+    → (sorts nodes binds exprs names constraints overloads sources scratch index typing measure choices : List ℕ)
     → Call
-call_of g ws ns bs xs ks cs os ss sc ts ms hs =
+call_of g ws ns bs xs ks cs os ss sc ix ts ms hs =
     record {
       sorts = ws;
       nodes = ns;
@@ -44,6 +44,7 @@ call_of g ws ns bs xs ks cs os ss sc ts ms hs =
       rows = rows_of g;
       default = g.default.0;
       scratch = sc;
+      index = ix;
       typing = ts;
       measure = ms;
       choices = hs;

@@ -26,7 +26,7 @@ use inference::{
 };
 use node_checks::{bindings_within_lent, is_place, nodes_within_lent, test_nodes};
 use problem_words::{ConstraintKind, constraint_at};
-use resolved_sort::{Refusal, Run, SORT_WORDS, SortId};
+use resolved_sort::{Refusal, Run, SLOTS, SORT_WORDS, SortId};
 use search_state::{EXPRS_AT, OVERLOADS_AT, SOURCES_AT, Sizes};
 use sort_checks::{test_sorts, within_lent};
 use unification::{InferSortId, NODE_WORDS};
@@ -48,10 +48,11 @@ pub struct Given {
     pub default: SortId,
 }
 
-// How many words are lent for scratch and for each output.
+// How many words are lent for scratch, for the index of sorts and for each output.
 #[derive(Clone, Copy, Drop)]
 pub struct Room {
     pub scratch: usize,
+    pub index: usize,
     pub typing: usize,
     pub measure: usize,
     pub choices: usize,
@@ -382,7 +383,7 @@ impl Problem<'_> {
         copy(lists, EXPRS_AT, self.exprs, 0, sizes.exprs as usize);
     }
 
-    // The checks of the solver: the first that fails, whatever stands in scratch and outputs.
+    // The checks of the solver: the first that fails, whatever stands in scratch, index and outputs.
     pub fn test_solve(&self, storage: &Storage<'_>, room: Room) -> Result<(), Refusal>
         ensures { (o : Outs room)
             → result ≡ first_failing (solve_checks (solve_call storage.now self.now room o)) }
@@ -483,6 +484,7 @@ impl Within<'_> {
         check(SORT_WORDS <= storage.sorts.len(), Refusal::TooShort)?;
         check(NODE_WORDS <= storage.nodes.len(), Refusal::TooShort)?;
         check(SCRATCH_WORDS <= room.scratch, Refusal::TooShort)?;
+        check(SLOTS <= room.index, Refusal::TooShort)?;
         check(
             TYPING_WORDS * problem.given.exprs <= room.typing,
             Refusal::TooShort,

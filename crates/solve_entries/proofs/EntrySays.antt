@@ -58,17 +58,17 @@ module _ (I : Call) where
   Leaves L = Cleared I L × Kept L L.answer
 
   tie_leaves : (W : Lent) (c : Candidate) (b : Bool) → Leaves (judged_by I W c b)
-  tie_leaves W c true = (record { nodes = refl; binds = refl; scratch = refl }, record { typing = refl; measure = refl; choices = refl })
-  tie_leaves W c false = (record { nodes = refl; binds = refl; scratch = refl }, tt)
+  tie_leaves W c true = (record { nodes = refl; binds = refl; scratch = refl; index = refl }, record { typing = refl; measure = refl; choices = refl })
+  tie_leaves W c false = (record { nodes = refl; binds = refl; scratch = refl; index = refl }, tt)
 
   best_leaves : (W : Lent) (b : Option Candidate) → Leaves (judged I W b)
-  best_leaves W none = (record { nodes = refl; binds = refl; scratch = refl }, record { typing = refl; measure = refl; choices = refl })
+  best_leaves W none = (record { nodes = refl; binds = refl; scratch = refl; index = refl }, record { typing = refl; measure = refl; choices = refl })
   best_leaves W (some c) = tie_leaves W c c.duplicate
 
   verdict_leaves : (O : Out (Unit {0})) → Leaves (verdict I O)
   verdict_leaves (found w) = best_leaves w.lent w.best
   verdict_leaves (missed w) = best_leaves w.lent w.best
-  verdict_leaves (ended c W) = (record { nodes = refl; binds = refl; scratch = refl }, (refl, record { typing = refl; measure = refl; choices = refl }))
+  verdict_leaves (ended c W) = (record { nodes = refl; binds = refl; scratch = refl; index = refl }, (refl, record { typing = refl; measure = refl; choices = refl }))
 
   -- An answer beside a refusal is of a search that had room, and a refusal of one that ended for want of it.
   abbrev NotRefused : Solved → Type 0
@@ -266,17 +266,17 @@ module _ (I : Call) where
       })
 
 -- The entry and its export, by their contracts.
-module _ (g : Given) (ws ns bs xs ks cs os ss sc ts ms hs : List ℕ) (ws' ns' bs' sc' ts' ms' hs' : List ℕ) where
+module _ (g : Given) (ws ns bs xs ks cs os ss sc ix ts ms hs : List ℕ) (ws' ns' bs' sc' ix' ts' ms' hs' : List ℕ) where
   abbrev call : Call
-  call = call_of g ws ns bs xs ks cs os ss sc ts ms hs
+  call = call_of g ws ns bs xs ks cs os ss sc ix ts ms hs
 
-  pub entry_says : (r : Solved) → solve_left r ws' ns' bs' sc' ts' ms' hs' ≡ solve_entry call → EntrySays call (solve_left r ws' ns' bs' sc' ts' ms' hs')
+  pub entry_says : (r : Solved) → solve_left r ws' ns' bs' sc' ix' ts' ms' hs' ≡ solve_entry call → EntrySays call (solve_left r ws' ns' bs' sc' ix' ts' ms' hs')
   entry_says r e = subst (EntrySays call) (sym e) (outcome_says call)
 
-module _ (n e m d v x k c o s t : ℕ) (ws ns bs xs ks cs os ss sc ts ms hs : List ℕ) (r : ℕ) (ws' ns' bs' sc' ts' ms' hs' : List ℕ) where
+module _ (n e m d v x k c o s t : ℕ) (ws ns bs xs ks cs os ss sc ix ts ms hs : List ℕ) (r : ℕ) (ws' ns' bs' sc' ix' ts' ms' hs' : List ℕ) where
   abbrev called : Call
-  called = call_of (given_of n e m d v x k c o s t) ws ns bs xs ks cs os ss sc ts ms hs
+  called = call_of (given_of n e m d v x k c o s t) ws ns bs xs ks cs os ss sc ix ts ms hs
 
-  pub export_says : packed_solve r ws' ns' bs' sc' ts' ms' hs' ≡ pack_solve_left (solve_entry called)
-      → PackedSays called (packed_solve r ws' ns' bs' sc' ts' ms' hs')
-  export_says q = packed_says called (packed_solve r ws' ns' bs' sc' ts' ms' hs') q
+  pub export_says : packed_solve r ws' ns' bs' sc' ix' ts' ms' hs' ≡ pack_solve_left (solve_entry called)
+      → PackedSays called (packed_solve r ws' ns' bs' sc' ix' ts' ms' hs')
+  export_says q = packed_says called (packed_solve r ws' ns' bs' sc' ix' ts' ms' hs') q

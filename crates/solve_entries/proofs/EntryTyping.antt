@@ -114,16 +114,17 @@ module _ (I : Call) (L : SolveLeft) (s : EntrySays I L) where
 
   -- a refusal by a check changes nothing, and is the first failing check
   pub refusal_changes_nothing : (r : Refusal) → L.answer ≡ Err r → Numbered r
-      → (first_failing (solve_checks I) ≡ Err r) × (L.sorts ≡ I.sorts) × (L.nodes ≡ I.nodes) × (L.scratch ≡ I.scratch)
+      → (first_failing (solve_checks I) ≡ Err r) × (L.sorts ≡ I.sorts) × (L.nodes ≡ I.nodes) × (L.scratch ≡ I.scratch) × (L.index ≡ I.index)
   refusal_changes_nothing r q n = go (says_by (Err r) q)
     where
       go : SaysBy I L (Err r)
-          → (first_failing (solve_checks I) ≡ Err r) × (L.sorts ≡ I.sorts) × (L.nodes ≡ I.nodes) × (L.scratch ≡ I.scratch)
+          → (first_failing (solve_checks I) ≡ Err r) × (L.sorts ≡ I.sorts) × (L.nodes ≡ I.nodes) × (L.scratch ≡ I.scratch) × (L.index ≡ I.index)
       go (inl (x, m)) = (
         x.first,
         ap (λ (M : SolveLeft). M.sorts) x.given,
         ap (λ (M : SolveLeft). M.nodes) x.given,
         ap (λ (M : SolveLeft). M.scratch) x.given,
+        ap (λ (M : SolveLeft). M.index) x.given,
       )
       go (inr x) = absurd (no_check_is_of_room r n (ended x.room))
         where
@@ -157,18 +158,18 @@ module _ (I : Call) (L : SolveLeft) (s : EntrySays I L) where
       go (Ok (Ambiguous k)) e x = (x.outputs.typing, x.outputs.measure, x.outputs.choices)
       go (Ok (Typing o)) e x = absurd (n (ap code_solved e))
 
-  -- after a search scratch is zero, and no node is left but those given
-  pub search_clears : first_failing (solve_checks I) ≡ Ok tt → (L.scratch ≡ replicate (length I.scratch) 0)
+  -- after a search scratch and index are zero, and no node is left but those given
+  pub search_clears : first_failing (solve_checks I) ≡ Ok tt → (L.scratch ≡ replicate (length I.scratch) 0) × (L.index ≡ replicate (length I.index) 0)
       × (L.nodes ≡ nodes_given_back I.lengths.nodes I.lengths.arguments I.nodes)
   search_clears f = go L.answer s
     where
-      go : (r : Solved) → SaysBy I L r → (L.scratch ≡ replicate (length I.scratch) 0)
+      go : (r : Solved) → SaysBy I L r → (L.scratch ≡ replicate (length I.scratch) 0) × (L.index ≡ replicate (length I.index) 0)
           × (L.nodes ≡ nodes_given_back I.lengths.nodes I.lengths.arguments I.nodes)
       go (Err r) (inl x) = let y = x.0.first in no_confusion (cc)
-      go (Err r) (inr x) = (x.memory.scratch, x.memory.nodes)
-      go (Ok (NoTyping k)) x = (x.searched.memory.scratch, x.searched.memory.nodes)
-      go (Ok (Ambiguous k)) x = (x.searched.memory.scratch, x.searched.memory.nodes)
-      go (Ok (Typing o)) x = (x.searched.memory.scratch, x.searched.memory.nodes)
+      go (Err r) (inr x) = (x.memory.scratch, x.memory.index, x.memory.nodes)
+      go (Ok (NoTyping k)) x = (x.searched.memory.scratch, x.searched.memory.index, x.searched.memory.nodes)
+      go (Ok (Ambiguous k)) x = (x.searched.memory.scratch, x.searched.memory.index, x.searched.memory.nodes)
+      go (Ok (Typing o)) x = (x.searched.memory.scratch, x.searched.memory.index, x.searched.memory.nodes)
 
 -- Two outcomes of which it says so.
 module _ (I : Call) where

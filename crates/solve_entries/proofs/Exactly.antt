@@ -1,6 +1,6 @@
 -- The statement about the entry (`EntrySays`) holds of one outcome, the defined one, and of no other: two of which it holds have one answer and leave the
--- same words. Their codes are one (`one_verdict`), so they are of one kind; sorts and counts are those of the search's end, nodes, bindings and scratch
--- are said, and so are outputs that are as given. Of a typing the rows are determined word by word: sorts are the incumbent's, and so are
+-- same words. Their codes are one (`one_verdict`), so they are of one kind; sorts and counts are those of the search's end, nodes, bindings, scratch
+-- and index are said, and so are outputs that are as given. Of a typing the rows are determined word by word: sorts are the incumbent's, and so are
 -- choices, by rising expression number; names are by choices, the measure is the least, and what stands behind them is as it was lent. Assumes nothing.
 use mathlib.Core.Path.{◌≡◌, refl, sym, ap, subst, ◌∙◌}
 use mathlib.Core.List.{List}
@@ -62,16 +62,16 @@ words_are n xs ys e f d = ext_get_or 0 xs ys e (λ i h. at i)
 abbrev no_choice : Choice
 no_choice = record { expr = 0; position = 0 }
 
-left_is : (L M : SolveLeft) → L.answer ≡ M.answer → L.sorts ≡ M.sorts → L.nodes ≡ M.nodes → L.binds ≡ M.binds → L.scratch ≡ M.scratch
+left_is : (L M : SolveLeft) → L.answer ≡ M.answer → L.sorts ≡ M.sorts → L.nodes ≡ M.nodes → L.binds ≡ M.binds → L.scratch ≡ M.scratch → L.index ≡ M.index
     → L.typing ≡ M.typing → L.measure ≡ M.measure → L.choices ≡ M.choices → L ≡ M
-left_is L M a ws ns bs sc ts ms hs =
-    λ j. record { answer = a j; sorts = ws j; nodes = ns j; binds = bs j; scratch = sc j; typing = ts j; measure = ms j; choices = hs j }
+left_is L M a ws ns bs sc ix ts ms hs =
+    λ j. record { answer = a j; sorts = ws j; nodes = ns j; binds = bs j; scratch = sc j; index = ix j; typing = ts j; measure = ms j; choices = hs j }
 
 module _ (I : Call) (L M : SolveLeft) where
   -- where outputs are as given
   not_written : L.answer ≡ M.answer → L.sorts ≡ M.sorts → Cleared I L → Cleared I M → OutputsAsGiven I L → OutputsAsGiven I M → L ≡ M
   not_written a ws c d x y =
-      left_is L M a ws (c.nodes ∙ sym d.nodes) (c.binds ∙ sym d.binds) (c.scratch ∙ sym d.scratch)
+      left_is L M a ws (c.nodes ∙ sym d.nodes) (c.binds ∙ sym d.binds) (c.scratch ∙ sym d.scratch) (c.index ∙ sym d.index)
       (x.typing ∙ sym y.typing) (x.measure ∙ sym y.measure) (x.choices ∙ sym y.choices)
 
   module _ (o p : Outputs) (s : SaysTyping I L o) (t : SaysTyping I M p) where
@@ -161,7 +161,7 @@ module _ (I : Call) (L M : SolveLeft) where
         let c = s.searched.memory in
         let d = t.searched.memory in
         left_is L M (e ∙ (ap (λ (u : Outputs). Ok (Typing u)) one_outputs ∙ sym f)) (s.searched.made ∙ sym t.searched.made)
-        (c.nodes ∙ sym d.nodes) (c.binds ∙ sym d.binds) (c.scratch ∙ sym d.scratch) one_typing one_measure_words one_choice_words
+        (c.nodes ∙ sym d.nodes) (c.binds ∙ sym d.binds) (c.scratch ∙ sym d.scratch) (c.index ∙ sym d.index) one_typing one_measure_words one_choice_words
 
 module _ (I : Call) where
   other_code : (r t : Solved) (L M : SolveLeft) → SaysBy I L r → SaysBy I M t → (code_solved r ≡ code_solved t → ⊥) → {A : Type 0} → A
@@ -216,6 +216,7 @@ module _ (I : Call) where
           nodes = q.nodes;
           binds = q.binds;
           scratch = q.scratch;
+          index = q.index;
           typing = q.typing;
           measure = q.measure;
           choices = q.choices;

@@ -4,16 +4,19 @@ use mathlib.Core.Path.{◌≡◌, refl, sym, ap, ◌∙◌, subst}
 use mathlib.Core.Bool.{Bool}
 use mathlib.Core.List.{List, []}
 use Prim.Native.Nat.{ℕ, ◌*◌, ◌≤◌}
-use lib.ListN.{length}
+use lib.ListN.{length, replicate, length-replicate}
 use Rattle.std.specs.Prelude.{Result, Ok, Err}
 use Rattle.resolved_sort.specs.declared.Refusal.{Refusal}
 use Rattle.resolved_sort.specs.Checks.{Tested, first_failing}
+use Rattle.resolved_sort.specs.Storage.{max_sorts}
+use Rattle.resolved_sort.specs.Index.{slots}
 use Rattle.unification.specs.declared.Full.{Full}
 use Rattle.unification.specs.declared.Lengths.{Lengths}
 use Rattle.unification.specs.Nodes.{binds_of}
 use Rattle.inference.specs.Constraints.{name_words, BaseName, base_name_at, rows_from}
 use Rattle.inference.specs.SolveChecks.{Call, solve_checks}
-use Rattle.inference.specs.SolveEntry.{Solved, SolveLeft, solve_entry, problem_of}
+use Rattle.words.specs.Words.{cleared}
+use Rattle.inference.specs.SolveEntry.{Solved, SolveLeft, nodes_given_back, solve_entry, problem_of}
 use Rattle.search_state.specs.declared.Search.{Search}
 use Rattle.search_state.specs.declared.Sizes.{Sizes}
 use Rattle.search_state.specs.declared.Branch.{Branch}
@@ -29,13 +32,27 @@ use Rattle.solve_outputs.specs.declared.Handout.{Handout}
 use Rattle.solve_outputs.specs.Handout.{call_with, solve_left_with}
 use Rattle.solve_outputs.specs.Inner.Begin.{CountsFit, RowsFit, sizes_of, no_incumbent, nothing_taken}
 use Rattle.solve_outputs.specs.Finish.{solve_left}
-use Rattle.solve_outputs.specs.Inner.Finish.{solve_left_by, settled_by, Handable}
+use Rattle.solve_outputs.specs.Inner.Finish.{Settled, solve_left_by, settled_by, Handable}
 use Rattle.solve_outputs.specs.Inner.Handing.{settling}
 use Rattle.solve_outputs.specs.Packed.{SolvedWithin}
 use Rattle.solve_outputs.proofs.Codes.{entry_told}
-use Rattle.solve_outputs.proofs.Passed.{counts_fit, rows_fit, packable, packed_problem, names_whole, begins, handable}
+use Rattle.solve_outputs.proofs.Passed.{counts_fit, rows_fit, packable, packed_problem, names_whole, begins, handable, passed_outputs}
 use Rattle.solve_outputs.proofs.Finished.{left_by_search, left_is_outcome}
 use Rattle.solve_entries.specs.Inner.Searched.{comes_to, settled_from}
+
+-- What is left of the index depends on its length alone: as many zeros. How long it is the search does not say; that its words are lent
+-- says it.
+same_length : (k : Lengths) (ns bs sc ix jx : List ℕ) (S : Settled) (L : SolveLeft) → length ix ≡ length jx
+    → L ≡ solve_left_by k ns bs sc ix S → L ≡ solve_left_by k ns bs sc jx S
+same_length k ns bs sc ix jx S L l q =
+    q
+    ∙ ap (λ (n : ℕ). solve_left S.told.answer S.sorts (nodes_given_back k.nodes k.arguments ns) bs (cleared sc) (replicate n 0)
+    S.told.typing S.told.measure S.told.choices) l
+
+by_its_index : (k : Lengths) (ns bs sc ix : List ℕ) (S : Settled) (L : SolveLeft)
+    → L ≡ solve_left_by k ns bs sc ix S → L ≡ solve_left_by k ns bs sc L.index S
+by_its_index k ns bs sc ix S L q =
+    same_length k ns bs sc ix L.index S L (sym (ap (λ (M : SolveLeft). length M.index) q ∙ length-replicate (length ix) 0)) q
 
 -- The search from nothing, and what comes after it.
 module _ (s : Search) (S : Searching s nothing_taken 0 [] (Solve 0)) (e : Branch) (p : e ≡ nothing_taken) where
@@ -49,24 +66,25 @@ module _ (s : Search) (S : Searching s nothing_taken 0 [] (Solve 0)) (e : Branch
         u.sorts.now u.nodes.now u.binds.now u.scratch.now (answer_of (state_of u) r)) p d.comes
 
     pub search_left : (names : List BaseName) (h : Handout) (L : SolveLeft)
-        → L ≡ solve_left_by s.lengths u.nodes.now u.binds.now u.scratch.now (settling u names h s.lengths r)
-        → L ≡ solve_left_by s.lengths s.nodes.now s.binds.now s.scratch.now (settled_from s names h)
+        → L ≡ solve_left_by s.lengths u.nodes.now u.binds.now u.scratch.now u.index.now (settling u names h s.lengths r)
+        → L ≡ solve_left_by s.lengths s.nodes.now s.binds.now s.scratch.now L.index (settled_from s names h)
     search_left names h L q =
-        left_by_search s.lists.now s.sizes s.sorts.now s.nodes.now s.binds.now s.scratch.now (state_of s) nothing_taken (comes_to s)
+        left_by_search s.lists.now s.sizes s.sorts.now s.nodes.now s.binds.now s.scratch.now L.index (state_of s) nothing_taken (comes_to s)
         u.sorts.now u.nodes.now u.binds.now u.scratch.now (answer_of (state_of u) r) S.ready.nodes from_nothing
         names h.typing.now h.measure.now h.choices.now L
-        (q ∙ ap (λ (g : GivenTo). solve_left_by s.lengths u.nodes.now u.binds.now u.scratch.now
+        (by_its_index s.lengths u.nodes.now u.binds.now u.scratch.now u.index.now (settling u names h s.lengths r) L q
+        ∙ ap (λ (g : GivenTo). solve_left_by s.lengths u.nodes.now u.binds.now u.scratch.now L.index
         (settled_by (problem_in g.lists g.sizes) names h.typing.now h.measure.now h.choices.now s.lengths
         (out_of g.lists g.sizes u.sorts.now u.nodes.now u.scratch.now (answer_of (state_of u) r)))) d.problem)
 
 -- A call.
-module _ (p : Problem) (ws ns bs sc : List ℕ) (h : Handout) where
+module _ (p : Problem) (ws ns bs sc ix : List ℕ) (h : Handout) where
   abbrev I : Call
-  I = call_with p ws ns bs sc h
+  I = call_with p ws ns bs sc ix h
 
   -- refused
   module _ (t : Tested) (e : t ≡ first_failing (solve_checks I)) where
-    pub refused_so : (c : Refusal) → t ≡ Err c → solve_left_with (Err c) ws ns bs sc h ≡ solve_entry I
+    pub refused_so : (c : Refusal) → t ≡ Err c → solve_left_with (Err c) ws ns bs sc ix h ≡ solve_entry I
     unfolding solve_entry
     refused_so c x = rw (sym e ∙ x)
 
@@ -93,6 +111,10 @@ module _ (p : Problem) (ws ns bs sc : List ℕ) (h : Handout) where
           disjunctions = r.disjunctions;
         }
 
+    -- the index can be filled
+    pub index_lent : (k : Lengths) → k ≡ lengths_of p.given → (k.sorts ≤ max_sorts) × (slots ≤ length ix)
+    index_lent k v = (subst (λ (m : Lengths). m.sorts ≤ max_sorts) (sym v) lengths_fit.sorts, (passed_outputs I f).index)
+
     module _ (z : Sizes) (q : z ≡ sizes_of (call_for p)) where
       same_sizes : z ≡ sizes_of I
       unfolding sizes_of
@@ -116,18 +138,21 @@ module _ (p : Problem) (ws ns bs sc : List ℕ) (h : Handout) where
 
           pub is_outcome : (L : SolveLeft)
               → L
-              ≡ solve_left_by k ns bs sc
+              ≡ solve_left_by k ns bs sc L.index
               (settled_by (problem_in ls z) (rows_from (base_name_at p.names.now) 0 p.given.names) h.typing.now h.measure.now h.choices.now k
-              (solve_from ls z 0 (path_of ls z (binds_of bs k.variables) sc nothing_taken) (world_of ls z ws ns sc (no_incumbent k)))) → L ≡ solve_entry I
-          is_outcome L e =
-              e
-              ∙ ((λ i. solve_left_by (v i) ns bs sc
+              (solve_from ls z 0 (path_of ls z (binds_of bs k.variables) sc nothing_taken) (world_of ls z ws ns sc (no_incumbent k))))
+              → length L.index ≡ length ix → L ≡ solve_entry I
+          is_outcome L e l =
+              same_length k ns bs sc L.index ix
+              (settled_by (problem_in ls z) (rows_from (base_name_at p.names.now) 0 p.given.names) h.typing.now h.measure.now h.choices.now k
+              (solve_from ls z 0 (path_of ls z (binds_of bs k.variables) sc nothing_taken) (world_of ls z ws ns sc (no_incumbent k)))) L l e
+              ∙ ((λ i. solve_left_by (v i) ns bs sc ix
               (settled_by (problem_in ls (same_sizes i)) (rows_from (base_name_at p.names.now) 0 p.given.names) h.typing.now h.measure.now h.choices.now (v i)
               (solve_from ls (same_sizes i) 0 (path_of ls (same_sizes i) (binds_of bs (v i).variables) sc nothing_taken)
               (world_of ls (same_sizes i) ws ns sc (no_incumbent (v i))))))
               ∙ left_is_outcome I f ls says_problem)
 
 -- The answer as one number.
-module _ (J : Call) (r : Solved) (ws ns bs sc ts ms hs : List ℕ) (e : solve_left r ws ns bs sc ts ms hs ≡ solve_entry J) where
+module _ (J : Call) (r : Solved) (ws ns bs sc ix ts ms hs : List ℕ) (e : solve_left r ws ns bs sc ix ts ms hs ≡ solve_entry J) where
   pub answer_told : SolvedWithin r
   answer_told = subst SolvedWithin (sym (ap (λ (L : SolveLeft). L.answer) e)) (entry_told J)

@@ -16,8 +16,9 @@ use Rattle.inference.specs.Measure.{Components}
 use Rattle.inference.specs.Search.{Candidate, Out, found, missed, ended, sort_in}
 use Rattle.inference.specs.SolveChecks.{Call, solve_checks}
 use Rattle.inference.specs.Rising.{rising}
+use Rattle.words.specs.Words.{cleared}
 use Rattle.inference.specs.SolveEntry.{Solved, SolveLeft, problem_of, lent_of, refused, room_refusal}
-use Rattle.inference.specs.SolveEntry.{nodes_given_back, cleared, counts_in, code_solved, sorts_out, measure_out}
+use Rattle.inference.specs.SolveEntry.{nodes_given_back, counts_in, code_solved, sorts_out, measure_out}
 use Rattle.inference.specs.SolveEntry.{choices_out}
 use Rattle.inference.specs.Typing.{HoldsTogether}
 use Rattle.inference.specs.Explained.{Explained}
@@ -56,11 +57,12 @@ module _ (I : Call) (L : SolveLeft) where
     pub first : first_failing (solve_checks I) ≡ Err c
     pub given : L ≡ refused I c
 
-  -- after a search: no node but those given, the bindings as given, scratch zero
+  -- after a search: no node but those given, the bindings as given, scratch and index zero
   pub record Cleared : Type 0 where
     pub nodes : L.nodes ≡ nodes_given_back I.lengths.nodes I.lengths.arguments I.nodes
     pub binds : L.binds ≡ I.binds
     pub scratch : L.scratch ≡ cleared I.scratch
+    pub index : L.index ≡ cleared I.index
 
   pub record OutputsAsGiven : Type 0 where
     pub typing : L.typing ≡ I.typing
@@ -139,7 +141,7 @@ EntrySays I L = SaysBy I L L.answer
 -- The same of a packed answer: it stands for one answer, and for no other; its low byte is document 01's number; and
 -- that answer, with the memory left, says what the entry's says.
 abbrev pub left_of : Solved → PackedSolve → SolveLeft
-left_of r q = solve_left r q.sorts q.nodes q.binds q.scratch q.typing q.measure q.choices
+left_of r q = solve_left r q.sorts q.nodes q.binds q.scratch q.index q.typing q.measure q.choices
 
 pub record PackedSays (I : Call) (q : PackedSolve) : Type 0 where
   pub answer : Solved

@@ -31,17 +31,18 @@ pub extern "C" fn sort_solve(
     source_count: usize,
     default: u16,
     scratch: &mut [u16],
+    index: &mut [u16],
     typing: &mut [u16],
     measure: &mut [u16],
     choices: &mut [u16],
 ) -> u64
-    ensures { packed_solve result sorts.new nodes.new binds.new scratch.new
+    ensures { packed_solve result sorts.new nodes.new binds.new scratch.new index.new
         typing.new measure.new choices.new
         ≡ pack_solve_left (solve_entry (call_of (given_of sort_count entry_count node_count node_entry_count
         var_count expr_count name_count constraint_count overload_count source_count default)
         sorts.old nodes.old binds.old exprs.now
         names.now constraints.now overloads.now sources.now
-        scratch.old typing.old measure.old choices.old)) }
+        scratch.old index.old typing.old measure.old choices.old)) }
 {
     solve_entries::sort_solve(
         sorts,
@@ -64,6 +65,7 @@ pub extern "C" fn sort_solve(
         source_count,
         default,
         scratch,
+        index,
         typing,
         measure,
         choices,

@@ -17,7 +17,8 @@ use Rattle.unification.specs.Growing.{CheckedLent, NodesAgree}
 use Rattle.inference.specs.Constraints.{BaseName}
 use Rattle.inference.specs.Search.{Candidate, Out, found, missed, ended, solve}
 use Rattle.inference.specs.SolveChecks.{Call, solve_checks}
-use Rattle.inference.specs.SolveEntry.{problem_of, base_names_of, lent_of, searched, SolveLeft, cleared, left_with}
+use Rattle.words.specs.Words.{cleared}
+use Rattle.inference.specs.SolveEntry.{problem_of, base_names_of, lent_of, searched, SolveLeft, left_with}
 use Rattle.inference.specs.SolveEntry.{counts_in, judged, judged_by, room_refusal, verdict, nothing_met, solve_entry}
 use Rattle.inference.proofs.Accepted.{passed_is_searched}
 use Rattle.inference.proofs.ListsLeft.{nodes_given_back_agree, search_gives_nodes_back}
@@ -35,7 +36,7 @@ use Rattle.solve_outputs.proofs.Passed.{passed_accepted, rest_is_all}
 use Rattle.search_state.proofs.Parts.{nothing_chosen}
 
 -- what is left depends on what the search comes to alone
-module _ (ls : List ℕ) (z : Sizes) (ws ns bs sc : List ℕ) (k : State) (e : Branch) (O : Out (Unit {0}))
+module _ (ls : List ℕ) (z : Sizes) (ws ns bs sc ix : List ℕ) (k : State) (e : Branch) (O : Out (Unit {0}))
     (ws' ns' bs' sc' : List ℕ) (r : Answer) (c : CheckedLent (lent ws ns k.lengths))
     (d : Done ls z ws ns bs sc k e O ws' ns' bs' sc' r) where
   abbrev W : Lent
@@ -46,7 +47,7 @@ module _ (ls : List ℕ) (z : Sizes) (ws ns bs sc : List ℕ) (k : State) (e : B
   nodes_kept (Missed s) g = (g.grows.node_words, g.grows.as_long.1)
   nodes_kept (Full x l) g = (g.node_words, g.as_long.1)
 
-  same_left : (s : Settled) → solve_left_by k.lengths ns' bs' sc' s ≡ solve_left_by k.lengths ns bs sc s
+  same_left : (s : Settled) → solve_left_by k.lengths ns' bs' sc' ix s ≡ solve_left_by k.lengths ns bs sc ix s
   same_left s =
       let a = nodes_kept r d.grown in
       let n = nodes_given_back_agree k.lengths.nodes k.lengths.arguments c.nodes c.entries ns ns' c.long a.1 a.0 in
@@ -57,23 +58,24 @@ module _ (ls : List ℕ) (z : Sizes) (ws ns bs sc : List ℕ) (k : State) (e : B
         nodes = n i;
         binds = d.binds i;
         scratch = m i;
+        index = cleared ix;
         typing = s.told.typing;
         measure = s.told.measure;
         choices = s.told.choices;
       }
 
   pub left_by_search : (names : List BaseName) (ts ms hs : List ℕ) (L : SolveLeft)
-      → L ≡ solve_left_by k.lengths ns' bs' sc' (settled_by (problem_in ls z) names ts ms hs k.lengths (out_of ls z ws' ns' sc' r))
-      → L ≡ solve_left_by k.lengths ns bs sc (settled_by (problem_in ls z) names ts ms hs k.lengths O)
+      → L ≡ solve_left_by k.lengths ns' bs' sc' ix (settled_by (problem_in ls z) names ts ms hs k.lengths (out_of ls z ws' ns' sc' r))
+      → L ≡ solve_left_by k.lengths ns bs sc ix (settled_by (problem_in ls z) names ts ms hs k.lengths O)
   left_by_search names ts ms hs L q =
-      q ∙ (same_left _ ∙ ap (λ o. solve_left_by k.lengths ns bs sc (settled_by (problem_in ls z) names ts ms hs k.lengths o)) d.says)
+      q ∙ (same_left _ ∙ ap (λ o. solve_left_by k.lengths ns bs sc ix (settled_by (problem_in ls z) names ts ms hs k.lengths o)) d.says)
 
 module _ (I : Call) (x : first_failing (solve_checks I) ≡ Ok tt) where
   abbrev settles : Out (Unit {0}) → Settled
   settles O = settled_by (problem_of I) (base_names_of I) I.typing I.measure I.choices I.lengths O
 
   abbrev leaves : Settled → SolveLeft
-  leaves s = solve_left_by I.lengths I.nodes I.binds I.scratch s
+  leaves s = solve_left_by I.lengths I.nodes I.binds I.scratch I.index s
 
   -- the incumbent is judged as in the definition
   by_tie : (W : Lent) (c : Candidate) (b : Bool)

@@ -11,6 +11,7 @@ use lib.ListN.{length}
 use borrow.Author.Tests.{leb-true}
 use Rattle.std.specs.Prelude.{Ok}
 use Rattle.resolved_sort.specs.Storage.{kind_at}
+use Rattle.resolved_sort.specs.Index.{slots, index_long}
 use Rattle.resolved_sort.specs.Checks.{first_failing, all_below, fixed_six, at_ceiling}
 use Rattle.resolved_sort.proofs.Below.{and_left, and_right}
 use Rattle.unification.specs.Nodes.{full_nodes, binds_of}
@@ -42,28 +43,32 @@ few_disjunctions (Disjunction x p run ∷ cs) = omega (arith, few_disjunctions c
 few_disjunctions (Comprehension body node element ∷ cs) = omega (arith, few_disjunctions cs)
 few_disjunctions (Join run t ∷ cs) = omega (arith, few_disjunctions cs)
 
--- check 14 of scratch and outputs
+-- check 14 of scratch, index and outputs
 pub record OutputsLent (I : Call) : Type 0 where
   pub scratch : scratch_words ≤ length I.scratch
+  pub index : slots ≤ length I.index
   pub typing : 3 * I.rows.exprs ≤ length I.typing
   pub measure : components (given I) ≤ length I.measure
   pub choices : 2 * length (disjunctions (given I)) ≤ length I.choices
 
 outputs_lent : (I : Call) → long_enough I ≡ true → OutputsLent I
-unfolding long_enough outputs_long
+unfolding long_enough outputs_long index_long
 outputs_lent I f =
     let a = leb scratch_words (length I.scratch) in
+    let i = leb slots (length I.index) in
     let b = leb (3 * I.rows.exprs) (length I.typing) in
     let c = leb (components (given I)) (length I.measure) in
     let d = leb (2 * length (disjunctions (given I))) (length I.choices) in
-    let x₄ = and_right (at_ceiling I.sorts && leb full_nodes (length I.nodes)) (a && b && c && d) f in
-    let x₃ = and_left (a && b && c) d x₄ in
-    let x₂ = and_left (a && b) c x₃ in
+    let x₄ = and_right (at_ceiling I.sorts && leb full_nodes (length I.nodes)) (a && i && b && c && d) f in
+    let x₃ = and_left (a && i && b && c) d x₄ in
+    let x₂ = and_left (a && i && b) c x₃ in
+    let x₁ = and_left (a && i) b x₂ in
     record {
-      scratch = leb-true scratch_words (length I.scratch) (and_left a b x₂);
-      typing = leb-true (3 * I.rows.exprs) (length I.typing) (and_right a b x₂);
-      measure = leb-true (components (given I)) (length I.measure) (and_right (a && b) c x₃);
-      choices = leb-true (2 * length (disjunctions (given I))) (length I.choices) (and_right (a && b && c) d x₄);
+      scratch = leb-true scratch_words (length I.scratch) (and_left a i x₁);
+      index = leb-true slots (length I.index) (and_right a i x₁);
+      typing = leb-true (3 * I.rows.exprs) (length I.typing) (and_right (a && i) b x₂);
+      measure = leb-true (components (given I)) (length I.measure) (and_right (a && i && b) c x₃);
+      choices = leb-true (2 * length (disjunctions (given I))) (length I.choices) (and_right (a && i && b && c) d x₄);
     }
 
 module _ (I : Call) (x : first_failing (solve_checks I) ≡ Ok tt) where

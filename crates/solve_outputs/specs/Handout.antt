@@ -7,13 +7,13 @@ use Rattle.solve_checks.specs.Call.{call_of}
 use Rattle.solve_outputs.specs.declared.Handout.{Handout}
 use Rattle.solve_outputs.specs.Finish.{solve_left}
 
-abbrev pub call_with : Problem → (sorts nodes binds scratch : List ℕ) → Handout → Call
-call_with p ws ns bs sc h =
-    call_of p.given ws ns bs p.exprs.now p.names.now p.constraints.now p.overloads.now p.sources.now sc h.typing.now
-    h.measure.now h.choices.now
+abbrev pub call_with : Problem → (sorts nodes binds scratch index : List ℕ) → Handout → Call
+call_with p ws ns bs sc ix h =
+    call_of p.given ws ns bs p.exprs.now p.names.now p.constraints.now p.overloads.now p.sources.now sc ix
+    h.typing.now h.measure.now h.choices.now
 
-abbrev pub solve_left_with : Solved → (sorts nodes binds scratch : List ℕ) → Handout → SolveLeft
-solve_left_with r ws ns bs sc h = solve_left r ws ns bs sc h.typing.now h.measure.now h.choices.now
+abbrev pub solve_left_with : Solved → (sorts nodes binds scratch index : List ℕ) → Handout → SolveLeft
+solve_left_with r ws ns bs sc ix h = solve_left r ws ns bs sc ix h.typing.now h.measure.now h.choices.now
 
 -- What is lent for the outputs, each part by its ghost name: no call changes it.
 pub record LentOutputs : Type 0 where

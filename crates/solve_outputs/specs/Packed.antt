@@ -49,18 +49,20 @@ pub record PackedSolve : Type 0 where
   pub nodes : List ℕ
   pub binds : List ℕ
   pub scratch : List ℕ
+  pub index : List ℕ
   pub typing : List ℕ
   pub measure : List ℕ
   pub choices : List ℕ
 
-abbrev pub packed_solve : ℕ → (sorts nodes binds scratch typing measure choices : List ℕ) → PackedSolve
-packed_solve r ws ns bs sc ts ms hs =
+abbrev pub packed_solve : ℕ → (sorts nodes binds scratch index typing measure choices : List ℕ) → PackedSolve
+packed_solve r ws ns bs sc ix ts ms hs =
     record {
       result = r;
       sorts = ws;
       nodes = ns;
       binds = bs;
       scratch = sc;
+      index = ix;
       typing = ts;
       measure = ms;
       choices = hs;
@@ -68,5 +70,5 @@ packed_solve r ws ns bs sc ts ms hs =
 
 abbrev pub pack_solve_left : SolveLeft → PackedSolve
 pack_solve_left l =
-    packed_solve (pack_solved l.answer) l.sorts l.nodes l.binds l.scratch l.typing l.measure
-    l.choices
+    packed_solve (pack_solved l.answer) l.sorts l.nodes l.binds l.scratch l.index l.typing
+    l.measure l.choices

@@ -42,7 +42,7 @@ use search_state::{
     BEST_CHOICES_AT, BEST_MEASURE_AT, BEST_SORTS_AT, Branch, OVERLOADS_AT, Search, Sizes,
 };
 use solve_checks::{Given, Problem, components, disjunction_count};
-use sort_interner::{clear_past, give_back};
+use sort_interner::{clear_index, clear_past, give_back};
 use unification::{Full, Lengths, NODE_ENTRIES_AT};
 use words::{BIT_8, BIT_24, BIT_40, BIT_52, clear, copy, put, word};
 
@@ -371,6 +371,7 @@ fn settle(
     ensures says { settled search.new.sorts.now (told_in result handout.new)
         ≡ settling search.old (names_read names.now.words.now names.now.count) handout.old entry found }
     ensures kept { OnlySorts search.old search.new }
+    ensures index_stays { search.new.index ≡ search.old.index }
     ensures same_reference { SameHandout handout.old handout.new }
 {
     match found {
@@ -382,13 +383,14 @@ fn settle(
     }
 }
 
-// Zero past the nodes that the call began with, and in the scratch.
+// Zero past the nodes that the call began with, in the scratch and in the index of sorts.
 fn tidy(search: &mut Search<'_>, entry: Lengths)
     requires { NodesReturnable search.old.nodes.now entry }
     ensures { Tidied entry search.old search.new }
 {
     clear_nodes(search.nodes, entry.nodes, entry.arguments);
     search.scratch.fill(0);
+    clear_index(search.index);
 }
 
 // What the entry answers and leaves after the search, of a call that began with so much of its lists.
@@ -404,6 +406,7 @@ pub fn finish(
         × NodesReturnable search.old.nodes.now entry }
     ensures says { left_in result search.new handout.new
         ≡ solve_left_by entry search.old.nodes.now search.old.binds.now search.old.scratch.now
+        search.old.index.now
         (settling search.old (names_read names.now.words.now names.now.count) handout.old entry found) }
     ensures same_problem { SameProblem search.old search.new }
     ensures same_handout { SameHandout handout.old handout.new }

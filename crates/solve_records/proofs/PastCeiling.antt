@@ -67,10 +67,10 @@ run_same n p q h s c = go (leb (s + c) n) refl
     go false e = refl
     go true e = ap (λ (b : Bool). true && b) (below_same (λ j. p (s + j)) (λ j. q (s + j)) c (λ j l. h (s + j) (omega (arith, l, leb-true (s + c) n e))))
 
-module _ (g : Given) (ws ns bs xs ks cs ss sc ts ms hs : List ℕ) where
+module _ (g : Given) (ws ns bs xs ks cs ss sc ix ts ms hs : List ℕ) where
   -- the call with these words of overloads
   abbrev call : List ℕ → Call
-  call os = call_of g ws ns bs xs ks cs os ss sc ts ms hs
+  call os = call_of g ws ns bs xs ks cs os ss sc ix ts ms hs
 
   abbrev n : ℕ
   n = g.overloads
@@ -198,10 +198,10 @@ first_words (suc k) (o ∷ rs) =
     ap (λ (l : List ℕ). words_of o ++ l) (first_words k rs) ∙ ap (λ (m : ℕ). take m (words_of o ++ record_words rs)) e
 
 -- Whatever else the call is given.
-pub records_past_the_ceiling_change_nothing : (g : Given) (ws ns bs xs ks cs ss sc ts ms hs : List ℕ) (rs : List OverloadRecord)
-    → solve_entry (call_of g ws ns bs xs ks cs (record_words (take max_overloads rs)) ss sc ts ms hs) ≡ solve_entry
-    (call_of g ws ns bs xs ks cs (record_words rs) ss sc ts ms hs)
-records_past_the_ceiling_change_nothing g ws ns bs xs ks cs ss sc ts ms hs rs = go (leb g.overloads max_overloads) refl
+pub records_past_the_ceiling_change_nothing : (g : Given) (ws ns bs xs ks cs ss sc ix ts ms hs : List ℕ) (rs : List OverloadRecord)
+    → solve_entry (call_of g ws ns bs xs ks cs (record_words (take max_overloads rs)) ss sc ix ts ms hs) ≡ solve_entry
+    (call_of g ws ns bs xs ks cs (record_words rs) ss sc ix ts ms hs)
+records_past_the_ceiling_change_nothing g ws ns bs xs ks cs ss sc ix ts ms hs rs = go (leb g.overloads max_overloads) refl
   where
     few : List ℕ
     few = record_words (take max_overloads rs)
@@ -212,14 +212,14 @@ records_past_the_ceiling_change_nothing g ws ns bs xs ks cs ss sc ts ms hs rs = 
     few_long : length few ≡ 3 * min max_overloads (length rs)
     few_long = three_words_each (take max_overloads rs) ∙ ap (λ (m : ℕ). 3 * m) (length-take max_overloads rs)
 
-    go : (b : Bool) → leb g.overloads max_overloads ≡ b → solve_entry (call_of g ws ns bs xs ks cs few ss sc ts ms hs)
-        ≡ solve_entry (call_of g ws ns bs xs ks cs all ss sc ts ms hs)
+    go : (b : Bool) → leb g.overloads max_overloads ≡ b → solve_entry (call_of g ws ns bs xs ks cs few ss sc ix ts ms hs)
+        ≡ solve_entry (call_of g ws ns bs xs ks cs all ss sc ix ts ms hs)
     go false e =
         let past = leb-false g.overloads max_overloads e in
-        refused_by_1 g ws ns bs xs ks cs ss sc ts ms hs few past ∙ sym (refused_by_1 g ws ns bs xs ks cs ss sc ts ms hs all past)
+        refused_by_1 g ws ns bs xs ks cs ss sc ix ts ms hs few past ∙ sym (refused_by_1 g ws ns bs xs ks cs ss sc ix ts ms hs all past)
     go true e =
         let c = leb-true g.overloads max_overloads e in
-        entry_same g ws ns bs xs ks cs ss sc ts ms hs few all
+        entry_same g ws ns bs xs ks cs ss sc ix ts ms hs few all
         (leb_same (3 * g.overloads) (length few) (3 * g.overloads) (length all)
         (λ l. omega (arith, l, few_long, three_words_each rs))
         (λ l. omega (arith, l, c, few_long, three_words_each rs)))

@@ -87,11 +87,12 @@ pub fn solve_records(
     problem: &Problem<'_>,
     overloads: &[OverloadRecord],
     scratch: &mut [u16],
+    index: &mut [u16],
     handout: &mut Handout<'_>,
 ) -> Result<Verdict, Refusal>
-    ensures says { solve_left_with result sorts.new nodes.new binds.new scratch.new handout.new
+    ensures says { solve_left_with result sorts.new nodes.new binds.new scratch.new index.new handout.new
         ≡ solve_entry (call_over problem.now (record_words (take max_overloads overloads.now))
-        sorts.old nodes.old binds.old scratch.old handout.old) }
+        sorts.old nodes.old binds.old scratch.old index.old handout.old) }
     ensures same_reference { SameHandout handout.old handout.new }
 {
     let words = unpack(overloads);
@@ -100,7 +101,7 @@ pub fn solve_records(
         overloads: &words[..used],
         ..*problem
     };
-    solve(sorts, nodes, binds, &unpacked, scratch, handout)
+    solve(sorts, nodes, binds, &unpacked, scratch, index, handout)
 }
 
 // The entry over records for callers in other languages: a slice is a pointer and a length, counts
@@ -127,18 +128,19 @@ pub extern "C" fn sort_solve_records(
     source_count: usize,
     default: u16,
     scratch: &mut [u16],
+    index: &mut [u16],
     typing: &mut [u16],
     measure: &mut [u16],
     choices: &mut [u16],
 ) -> u64
-    ensures { packed_solve result sorts.new nodes.new binds.new scratch.new
+    ensures { packed_solve result sorts.new nodes.new binds.new scratch.new index.new
         typing.new measure.new choices.new
         ≡ pack_solve_left (solve_entry (call_of (given_of sort_count entry_count node_count node_entry_count
         var_count expr_count name_count constraint_count overload_count source_count default)
         sorts.old nodes.old binds.old exprs.now
         names.now constraints.now
         (record_words (take max_overloads overloads.now)) sources.now
-        scratch.old typing.old measure.old choices.old)) }
+        scratch.old index.old typing.old measure.old choices.old)) }
 {
     let given = Given {
         sorts: sort_count,
@@ -173,6 +175,7 @@ pub extern "C" fn sort_solve_records(
         &problem,
         overloads,
         scratch,
+        index,
         &mut handout,
     ))
 }

@@ -10,13 +10,15 @@ use Rattle.solve_checks.specs.declared.Room.{Room}
 use Rattle.solve_checks.specs.declared.Storage.{Storage}
 use Rattle.solve_checks.specs.Call.{call_of}
 
--- Scratch and outputs of the lengths that a call says. What stands in them no check looks at.
+-- Scratch, index and outputs of the lengths that a call says. What stands in them no check looks at.
 pub record Outs (room : Room) : Type 0 where
   pub scratch : List ℕ
+  pub index : List ℕ
   pub typing : List ℕ
   pub measure : List ℕ
   pub choices : List ℕ
   pub scratch_length : length scratch ≡ room.scratch
+  pub index_length : length index ≡ room.index
   pub typing_length : length typing ≡ room.typing
   pub measure_length : length measure ≡ room.measure
   pub choices_length : length choices ≡ room.choices
@@ -24,20 +26,22 @@ pub record Outs (room : Room) : Type 0 where
 abbrev pub room_call : Given → (sorts nodes binds exprs names constraints overloads sources : List ℕ)
     → (room : Room) → Outs room → Call
 room_call g ws ns bs xs ks cs os ss room o =
-    call_of g ws ns bs xs ks cs os ss o.scratch o.typing o.measure o.choices
+    call_of g ws ns bs xs ks cs os ss o.scratch o.index o.typing o.measure o.choices
 
--- with no words lent for scratch and outputs, and with no sorts, nodes and bindings beside
+-- with no words lent for scratch, index and outputs, and with no sorts, nodes and bindings beside
 abbrev pub no_room : Room
-no_room = record { scratch = 0; typing = 0; measure = 0; choices = 0 }
+no_room = record { scratch = 0; index = 0; typing = 0; measure = 0; choices = 0 }
 
 abbrev pub no_outs : Outs no_room
 no_outs =
     record {
       scratch = [];
+      index = [];
       typing = [];
       measure = [];
       choices = [];
       scratch_length = refl;
+      index_length = refl;
       typing_length = refl;
       measure_length = refl;
       choices_length = refl;

@@ -11,13 +11,13 @@ pub solve_passed-requires : goal.solve_passed-requires
 solve_passed-requires c =
     let a = c.args in
     let h = a.handout.now in
-    law.passes a.problem.now a.sorts.now a.nodes.now a.binds.now a.scratch.now h _
-    (c.test_solve.ensures (outs_of a.scratch.now h.typing.now h.measure.now h.choices.now)) c.in_ok-test_solve.was
+    law.passes a.problem.now a.sorts.now a.nodes.now a.binds.now a.scratch.now a.index.now h _
+    (c.test_solve.ensures (outs_of a.scratch.now a.index.now h.typing.now h.measure.now h.choices.now)) c.in_ok-test_solve.was
 
 pub returns-in_err-test_solve-clause-says : goal.returns-in_err-test_solve-clause-says
 returns-in_err-test_solve-clause-says c =
     let a = c.args in
     let h = a.handout.now in
-    ap (λ (r : Solved). solve_left_with r a.sorts.now a.nodes.now a.binds.now a.scratch.now h) (handed_on _ _ c.from_residual.ensures.1)
-    ∙ law.refused_so a.problem.now a.sorts.now a.nodes.now a.binds.now a.scratch.now h _
-    (c.test_solve.ensures (outs_of a.scratch.now h.typing.now h.measure.now h.choices.now)) _ c.in_err-test_solve.was
+    ap (λ (r : Solved). solve_left_with r a.sorts.now a.nodes.now a.binds.now a.scratch.now a.index.now h) (handed_on _ _ c.from_residual.ensures.1)
+    ∙ law.refused_so a.problem.now a.sorts.now a.nodes.now a.binds.now a.scratch.now a.index.now h _
+    (c.test_solve.ensures (outs_of a.scratch.now a.index.now h.typing.now h.measure.now h.choices.now)) _ c.in_err-test_solve.was

@@ -12,19 +12,21 @@ use Rattle.search_state.specs.declared.Branch.{Branch}
 use Rattle.solve_checks.specs.declared.Room.{Room}
 use Rattle.solve_checks.specs.Inner.Calls.{Outs}
 
--- scratch and outputs as they are lent
-abbrev pub room_of : (scratch typing measure choices : List ℕ) → Room
-room_of sc ts ms hs =
-    record { scratch = length sc; typing = length ts; measure = length ms; choices = length hs }
+-- scratch, index and outputs as they are lent
+abbrev pub room_of : (scratch index typing measure choices : List ℕ) → Room
+room_of sc ix ts ms hs =
+    record { scratch = length sc; index = length ix; typing = length ts; measure = length ms; choices = length hs }
 
-abbrev pub outs_of : (scratch typing measure choices : List ℕ) → Outs (room_of scratch typing measure choices)
-outs_of sc ts ms hs =
+abbrev pub outs_of : (scratch index typing measure choices : List ℕ) → Outs (room_of scratch index typing measure choices)
+outs_of sc ix ts ms hs =
     record {
       scratch = sc;
+      index = ix;
       typing = ts;
       measure = ms;
       choices = hs;
       scratch_length = refl;
+      index_length = refl;
       typing_length = refl;
       measure_length = refl;
       choices_length = refl;

@@ -10,7 +10,8 @@ use Rattle.inference.specs.Constraints.{BaseName, Problem}
 use Rattle.inference.specs.Search.{Candidate, Out, found, missed, ended}
 use Rattle.inference.specs.SolveChecks.{typing_words, choice_words, no_two}
 use Rattle.inference.specs.Rising.{rising}
-use Rattle.inference.specs.SolveEntry.{Solved, SolveLeft, nodes_given_back, cleared, typing_rows, choice_rows}
+use Rattle.words.specs.Words.{cleared}
+use Rattle.inference.specs.SolveEntry.{Solved, SolveLeft, nodes_given_back, typing_rows, choice_rows}
 use Rattle.inference.specs.SolveEntry.{written_over, counts_in, room_refusal}
 use Rattle.search_state.specs.declared.Sizes.{Sizes}
 use Rattle.search_state.specs.Inner.Memory.{problem_in, chosen_exprs, scratch_used}
@@ -35,9 +36,9 @@ pub record Settled : Type 0 where
 abbrev pub settled : List ℕ → Answered → Settled
 settled ws a = record { sorts = ws; told = a }
 
-abbrev pub solve_left_by : Lengths → (nodes binds scratch : List ℕ) → Settled → SolveLeft
-solve_left_by k ns bs sc s =
-    solve_left s.told.answer s.sorts (nodes_given_back k.nodes k.arguments ns) bs (cleared sc)
+abbrev pub solve_left_by : Lengths → (nodes binds scratch index : List ℕ) → Settled → SolveLeft
+solve_left_by k ns bs sc ix s =
+    solve_left s.told.answer s.sorts (nodes_given_back k.nodes k.arguments ns) bs (cleared sc) (cleared ix)
     s.told.typing s.told.measure s.told.choices
 
 -- for a problem with base names, and outputs to be written over

@@ -6,7 +6,8 @@ use Rattle.unification.specs.declared.Full.{Full}
 use Rattle.unification.specs.declared.Lengths.{Lengths}
 use Rattle.inference.specs.Constraints.{BaseName, base_name_at, rows_from, Problem}
 use Rattle.inference.specs.Search.{Candidate, Out}
-use Rattle.inference.specs.SolveEntry.{Solved, SolveLeft, nodes_given_back, cleared}
+use Rattle.words.specs.Words.{cleared}
+use Rattle.inference.specs.SolveEntry.{Solved, SolveLeft, nodes_given_back}
 use Rattle.search_state.specs.declared.Search.{Search}
 use Rattle.search_state.specs.Inner.Memory.{problem_in, candidate_of, best_of, out_of}
 use Rattle.search_state.specs.Inner.Solving.{has_best, is_tied, state_of, answer_of}
@@ -36,7 +37,7 @@ abbrev pub told_in : Solved → Handout → Answered
 told_in r h = answered r h.typing.now h.measure.now h.choices.now
 
 abbrev pub left_in : Solved → Search → Handout → SolveLeft
-left_in r s h = solve_left_with r s.sorts.now s.nodes.now s.binds.now s.scratch.now h
+left_in r s h = solve_left_with r s.sorts.now s.nodes.now s.binds.now s.scratch.now s.index.now h
 
 -- the incumbent handed out, the verdict of a search that had room, and the answer of any search
 abbrev pub handing : Search → List BaseName → Handout → Answered
@@ -52,13 +53,14 @@ abbrev pub settling : Search → List BaseName → Handout → Lengths → Resul
 settling s names h k r =
     settled_by (problem_asked s) names h.typing.now h.measure.now h.choices.now k (out_in s r)
 
--- no nodes but those that the call began with, and nothing in the scratch
+-- no nodes but those that the call began with, and nothing in the scratch and in the index
 abbrev pub Tidied : Lengths → Search → Search → Type 0
 Tidied k s t =
     (t.sorts ≡ s.sorts)
     × (t.nodes ≡ record s.nodes { now = nodes_given_back k.nodes k.arguments s.nodes.now })
     × (t.binds ≡ s.binds)
     × (t.scratch ≡ record s.scratch { now = cleared s.scratch.now })
+    × (t.index ≡ record s.index { now = cleared s.index.now })
     × (t.lists ≡ s.lists)
     × (t.sizes ≡ s.sizes)
     × (t.lengths ≡ s.lengths)

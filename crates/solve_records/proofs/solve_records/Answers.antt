@@ -10,7 +10,7 @@ pub returns-clause-says : goal.returns-clause-says
 returns-clause-says c =
     let a = c.args in
     c.solve.ensures.says
-    ∙ ap (λ (os : List ℕ). solve_entry (call_over a.problem.now os a.sorts.now a.nodes.now a.binds.now a.scratch.now a.handout.now))
+    ∙ ap (λ (os : List ℕ). solve_entry (call_over a.problem.now os a.sorts.now a.nodes.now a.binds.now a.scratch.now a.index.now a.handout.now))
     (ap (λ (n : ℕ). take (3 * n) c.unpack-words.result) c.at_most-used.ensures
     ∙ ap (λ (l : List ℕ). take (words_of_count (length a.overloads.now)) l) c.unpack-words.ensures
     ∙ words_looked_at a.overloads.now)

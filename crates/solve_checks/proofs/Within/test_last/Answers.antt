@@ -45,20 +45,28 @@ returns-in_err-check-6 c = λ o.
 pub returns-in_err-check-7 : goal.returns-in_err-check-7
 returns-in_err-check-7 c = λ o.
     handed_on _ _ c.from_residual-in_err-check-7.ensures.1
-    ∙ law.typing_refused c.args.storage.now c.args.self.now.problem c.args.room o c.joins_fine.ensures c.in_ok-check.ensures
+    ∙ law.index_refused c.args.storage.now c.args.self.now.problem c.args.room o c.joins_fine.ensures c.in_ok-check.ensures
     _ c.constraint_count-count.ensures _ c.components-parts.ensures c.in_ok-check-2.ensures c.listed.ensures c.in_ok-check-3.ensures
     c.in_ok-check-4.ensures c.in_ok-check-5.ensures c.in_ok-check-6.ensures _ c.in_err-check-7.ensures
 
 pub returns-in_err-check-8 : goal.returns-in_err-check-8
 returns-in_err-check-8 c = λ o.
     handed_on _ _ c.from_residual-in_err-check-8.ensures.1
-    ∙ law.measure_refused c.args.storage.now c.args.self.now.problem c.args.room o c.joins_fine.ensures c.in_ok-check.ensures
+    ∙ law.typing_refused c.args.storage.now c.args.self.now.problem c.args.room o c.joins_fine.ensures c.in_ok-check.ensures
     _ c.constraint_count-count.ensures _ c.components-parts.ensures c.in_ok-check-2.ensures c.listed.ensures c.in_ok-check-3.ensures
     c.in_ok-check-4.ensures c.in_ok-check-5.ensures c.in_ok-check-6.ensures c.in_ok-check-7.ensures _ c.in_err-check-8.ensures
+
+pub returns-in_err-check-9 : goal.returns-in_err-check-9
+returns-in_err-check-9 c = λ o.
+    handed_on _ _ c.from_residual-in_err-check-9.ensures.1
+    ∙ law.measure_refused c.args.storage.now c.args.self.now.problem c.args.room o c.joins_fine.ensures c.in_ok-check.ensures
+    _ c.constraint_count-count.ensures _ c.components-parts.ensures c.in_ok-check-2.ensures c.listed.ensures c.in_ok-check-3.ensures
+    c.in_ok-check-4.ensures c.in_ok-check-5.ensures c.in_ok-check-6.ensures c.in_ok-check-7.ensures c.in_ok-check-8.ensures _ c.in_err-check-9.ensures
 
 pub returns : goal.returns
 returns c = λ o.
     law.choices_decide c.args.storage.now c.args.self.now.problem c.args.room o c.joins_fine.ensures c.in_ok-check.ensures
     _ c.constraint_count-count.ensures _ c.components-parts.ensures c.in_ok-check-2.ensures c.listed.ensures c.in_ok-check-3.ensures
     c.in_ok-check-4.ensures c.in_ok-check-5.ensures c.in_ok-check-6.ensures c.in_ok-check-7.ensures c.in_ok-check-8.ensures
-    _ c.disjunction_count-choices.ensures c.check-9.ensures
+    c.in_ok-check-9.ensures
+    _ c.disjunction_count-choices.ensures c.check-10.ensures
