@@ -1,6 +1,7 @@
 -- A list as it stands in its words (Rattle.list_memory.specs.Memory), and the call of the solver about it.
 use Rattle.std.specs.Prelude.{cond, List, ℕ, ◌+◌, ◌*◌, eqb, ltb, get_or}
 use Rattle.resolved_sort.specs.Storage.{full_length}
+use Rattle.resolved_sort.specs.Index.{slots}
 use Rattle.unification.specs.Nodes.{max_vars, full_nodes}
 use Rattle.inference.specs.Constraints.{max_exprs, max_sources, max_components}
 use Rattle.inference.specs.SolveChecks.{scratch_words, Call}
@@ -10,7 +11,7 @@ use Rattle.list_memory.specs.Memory.{list_sorts_at, list_nodes_at, list_binds_at
 use Rattle.list_memory.specs.Memory.{list_overloads_at, list_sources_at, list_typing_at, list_measure_at, list_choices_at}
 use Rattle.list_memory.specs.Memory.{list_scratch_at, sort_list, entry_list, node_list, node_entry_list, var_list, expr_list}
 use Rattle.list_memory.specs.Memory.{name_list, constraint_list, overload_list, source_list, default_at, counts_at}
-use Rattle.list_memory.specs.Memory.{counts_told_at, lent_at, lent_told_at}
+use Rattle.list_memory.specs.Memory.{counts_told_at, lent_at, lent_told_at, list_index_at}
 use Rattle.words.specs.Words.{part}
 use Rattle.solve_checks.specs.declared.Given.{Given}
 use Rattle.solve_checks.specs.Call.{call_of}
@@ -59,16 +60,19 @@ module _ (ws : List ℕ) where
   sources_in = slice_lent ws list_sources_at 7 (1 * rows_given ws source_list) max_sources
 
   abbrev pub typing_in : List ℕ
-  typing_in = slice_lent ws list_typing_at 9 list_typing_words list_typing_words
+  typing_in = slice_lent ws list_typing_at 10 list_typing_words list_typing_words
 
   abbrev pub measure_in : List ℕ
-  measure_in = slice_lent ws list_measure_at 10 max_components max_components
+  measure_in = slice_lent ws list_measure_at 11 max_components max_components
 
   abbrev pub choices_in : List ℕ
-  choices_in = slice_lent ws list_choices_at 11 list_choice_words list_choice_words
+  choices_in = slice_lent ws list_choices_at 12 list_choice_words list_choice_words
 
   abbrev pub scratch_in : List ℕ
   scratch_in = slice_lent ws list_scratch_at 8 scratch_words scratch_words
+
+  abbrev pub index_in : List ℕ
+  index_in = slice_lent ws list_index_at 9 slots slots
 
   abbrev pub given_in : Given
   given_in =
@@ -87,11 +91,12 @@ module _ (ws : List ℕ) where
       }
 
   -- the call with these counts and the slices that it may change, and the call as the list tells it
-  abbrev pub call_by : Given → (sorts nodes binds scratch typing measure choices : List ℕ) → Call
-  call_by g ss ns bs xs ts ms cs = call_of g ss ns bs exprs_in names_in constraints_in overloads_in sources_in xs ts ms cs
+  abbrev pub call_by : Given → (sorts nodes binds scratch index typing measure choices : List ℕ) → Call
+  call_by g ss ns bs xs ix ts ms cs =
+      call_of g ss ns bs exprs_in names_in constraints_in overloads_in sources_in xs ix ts ms cs
 
   abbrev pub call_on : (sorts typing measure choices : List ℕ) → Call
-  call_on ss ts ms cs = call_by given_in ss nodes_in binds_in scratch_in ts ms cs
+  call_on ss ts ms cs = call_by given_in ss nodes_in binds_in scratch_in index_in ts ms cs
 
   abbrev pub call_in : Call
   call_in = call_on sorts_in typing_in measure_in choices_in

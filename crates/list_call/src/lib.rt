@@ -84,7 +84,7 @@ fn lend(list: &[u16], slice: Slice, table: Table) -> &[u16]
 }
 
 // The solver asked about a list, with its counts and the slices that it may change.
-// kept: four lent slices apart, as `solve` takes them: as a struct within a Search they were tried, and a &mut slice of
+// kept: five lent slices apart, as `solve` takes them: as a struct within a Search they were tried, and a &mut slice of
 // a struct within a struct is lost at the end of the outer one.
 // kept: a bound on the list and no array of LIST_WORDS words, which would ask more of callers; so in the crates above.
 #[tactic(auto, unfolding(list_memory::specs::Layouts::layout_of))]
@@ -95,12 +95,13 @@ pub fn solve_list(
     nodes: &mut [u16],
     binds: &mut [u16],
     scratch: &mut [u16],
+    index: &mut [u16],
     handout: &mut Handout<'_>,
 ) -> Result<Verdict, Refusal>
     requires { rows_at ≤ length list.now }
-    ensures says { solve_left_with result sorts.new nodes.new binds.new scratch.new handout.new
-        ≡ solve_entry (call_by list.now given sorts.old nodes.old binds.old scratch.old handout.old.typing.now
-        handout.old.measure.now handout.old.choices.now) }
+    ensures says { solve_left_with result sorts.new nodes.new binds.new scratch.new index.new handout.new
+        ≡ solve_entry (call_by list.now given sorts.old nodes.old binds.old scratch.old index.old
+        handout.old.typing.now handout.old.measure.now handout.old.choices.now) }
     ensures same_reference { SameHandout handout.old handout.new }
 {
     let exprs = lend(list, Slice::Exprs, Table::Exprs);
@@ -116,5 +117,5 @@ pub fn solve_list(
         sources,
         given,
     };
-    solve(sorts, nodes, binds, &problem, scratch, handout)
+    solve(sorts, nodes, binds, &problem, scratch, index, handout)
 }

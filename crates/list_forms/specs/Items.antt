@@ -57,6 +57,7 @@ slice_named (Token.Keyword Keyword.Constraints) = Some Slice.Constraints
 slice_named (Token.Keyword Keyword.Overloads) = Some Slice.Overloads
 slice_named (Token.Keyword Keyword.Sources) = Some Slice.Sources
 slice_named (Token.Keyword Keyword.Scratch) = Some Slice.Scratch
+slice_named (Token.Keyword Keyword.Index) = Some Slice.Index
 slice_named (Token.Keyword Keyword.OutTyping) = Some Slice.Typing
 slice_named (Token.Keyword Keyword.OutMeasure) = Some Slice.Measure
 slice_named (Token.Keyword Keyword.OutChoices) = Some Slice.Choices

@@ -147,6 +147,7 @@ fn slice_of(token: Token) -> Option<Slice>
         Token::Keyword(Keyword::Overloads) => Some(Slice::Overloads),
         Token::Keyword(Keyword::Sources) => Some(Slice::Sources),
         Token::Keyword(Keyword::Scratch) => Some(Slice::Scratch),
+        Token::Keyword(Keyword::Index) => Some(Slice::Index),
         Token::Keyword(Keyword::OutTyping) => Some(Slice::Typing),
         Token::Keyword(Keyword::OutMeasure) => Some(Slice::Measure),
         Token::Keyword(Keyword::OutChoices) => Some(Slice::Choices),
@@ -912,7 +913,7 @@ impl<'a> Line<'a> {
         told_at: usize,
         form: Form,
     ) -> Result<Plan, Form>
-        requires { IfSome number (λ k. k ≤ 11) × (at ≤ memory_words) × (told_at ≤ memory_words) }
+        requires { IfSome number (λ k. k ≤ 12) × (at ≤ memory_words) × (told_at ≤ memory_words) }
         ensures { result ≡ told_line self.now.words.now keyword number at told_at form }
     {
         expect(

@@ -1,5 +1,5 @@
--- No word of the list's memory has two meanings: the rows of two tables lie apart, and so do the outputs, the scratch and the words behind
--- them. Computed from the definitions. Assumes nothing.
+-- No word of the list's memory has two meanings: the rows of two tables lie apart, and so do the outputs, the scratch, the index and the
+-- words behind them. Computed from the definitions. Assumes nothing.
 use mathlib.Core.Path.{◌≡◌, refl}
 use mathlib.Core.Bool.{true, not, ◌||◌}
 use mathlib.Core.List.{List, [], ◌∷◌}
@@ -8,11 +8,13 @@ use native.Mathlib.Omega.{arith}
 use lib.Dec.{ltb, leb}
 use lib.ListN.{get_or}
 use Rattle.std.specs.List.{list_all}
+use Rattle.resolved_sort.specs.Index.{slots}
 use Rattle.inference.specs.Constraints.{max_sources, max_components}
 use Rattle.inference.specs.SolveChecks.{scratch_words}
 use Rattle.list_memory.specs.declared.Table.{Table}
 use Rattle.list_memory.specs.declared.Slice.{Slice}
 use Rattle.list_memory.specs.Memory.{list_typing_words, list_choice_words, list_sources_at, list_typing_at, list_measure_at, list_choices_at, list_scratch_at}
+use Rattle.list_memory.specs.Memory.{list_index_at}
 use Rattle.list_memory.specs.Memory.{rows_at, most_rows, default_at, counts_at, counts_told_at, lent_at, lent_told_at, stage_at, last_at, memory_words}
 use Rattle.list_memory.specs.Layouts.{table_number, slice_number, layout_of, list_row_at}
 
@@ -47,7 +49,7 @@ table_is_that_of_its_number Table.Sources = refl
 abbrev slices : List Slice
 slices =
     Slice.Sorts ∷ Slice.Nodes ∷ Slice.Bindings ∷ Slice.Exprs ∷ Slice.Names ∷ Slice.Constraints ∷ Slice.Overloads ∷ Slice.Sources
-    ∷ Slice.Scratch ∷ Slice.Typing ∷ Slice.Measure ∷ Slice.Choices ∷ []
+    ∷ Slice.Scratch ∷ Slice.Index ∷ Slice.Typing ∷ Slice.Measure ∷ Slice.Choices ∷ []
 
 pub slice_is_that_of_its_number : (k : Slice) → get_or slices (slice_number k) Slice.Sorts ≡ k
 slice_is_that_of_its_number Slice.Sorts = refl
@@ -59,6 +61,7 @@ slice_is_that_of_its_number Slice.Constraints = refl
 slice_is_that_of_its_number Slice.Overloads = refl
 slice_is_that_of_its_number Slice.Sources = refl
 slice_is_that_of_its_number Slice.Scratch = refl
+slice_is_that_of_its_number Slice.Index = refl
 slice_is_that_of_its_number Slice.Typing = refl
 slice_is_that_of_its_number Slice.Measure = refl
 slice_is_that_of_its_number Slice.Choices = refl
@@ -77,22 +80,22 @@ rows_follow_one_another Table.Constraints n = omega arith
 rows_follow_one_another Table.Overloads n = omega arith
 rows_follow_one_another Table.Sources n = omega arith
 
--- behind the tables the outputs and the scratch
+-- behind the tables the outputs, the scratch and the index
 pub outputs_lie_apart :
     (list_sources_at + max_sources ≤ list_typing_at) × (list_typing_at + list_typing_words ≤ list_measure_at)
     × (list_measure_at + max_components ≤ list_choices_at) × (list_choices_at + list_choice_words ≤ list_scratch_at)
-    × (list_scratch_at + scratch_words ≤ rows_at)
-outputs_lie_apart = (omega arith, omega arith, omega arith, omega arith, omega arith)
+    × (list_scratch_at + scratch_words ≤ list_index_at) × (list_index_at + slots ≤ rows_at)
+outputs_lie_apart = (omega arith, omega arith, omega arith, omega arith, omega arith, omega arith)
 
--- and behind them what the lines told besides: a word for each of ten tables or twelve slices, or one
+-- and behind them what the lines told besides: a word for each of ten tables or thirteen slices, or one
 pub told_words_lie_apart :
     (rows_at + 10 ≤ default_at) × (default_at < counts_at) × (counts_at + 10 ≤ counts_told_at) × (counts_told_at + 10 ≤ lent_at)
-    × (lent_at + 12 ≤ lent_told_at) × (lent_told_at + 12 ≤ stage_at) × (stage_at < last_at) × (last_at < memory_words)
+    × (lent_at + 13 ≤ lent_told_at) × (lent_told_at + 13 ≤ stage_at) × (stage_at < last_at) × (last_at < memory_words)
 told_words_lie_apart = (omega arith, omega arith, omega arith, omega arith, omega arith, omega arith, omega arith, omega arith)
 
--- seven words behind the last are free
-pub seven_words_are_free : last_at + 8 ≡ memory_words
-seven_words_are_free = omega arith
+-- five words behind the last are free
+pub five_words_are_free : last_at + 6 ≡ memory_words
+five_words_are_free = omega arith
 
 -- rows are counted as far as a word goes
 pub rows_are_counted_as_far_as_a_word_goes : most_rows + 1 ≡ 2 ^ 16

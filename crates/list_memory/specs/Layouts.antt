@@ -35,9 +35,10 @@ slice_number Slice.Constraints = 5
 slice_number Slice.Overloads = 6
 slice_number Slice.Sources = 7
 slice_number Slice.Scratch = 8
-slice_number Slice.Typing = 9
-slice_number Slice.Measure = 10
-slice_number Slice.Choices = 11
+slice_number Slice.Index = 9
+slice_number Slice.Typing = 10
+slice_number Slice.Measure = 11
+slice_number Slice.Choices = 12
 
 abbrev pub stage_number : Stage → ℕ
 stage_number Stage.NoList = no_list

@@ -2,6 +2,7 @@
 -- besides.
 use Rattle.std.specs.Prelude.{List, ℕ, ◌+◌, ◌*◌, get_or, Result}
 use Rattle.resolved_sort.specs.Storage.{full_length}
+use Rattle.resolved_sort.specs.Index.{slots}
 use Rattle.unification.specs.Nodes.{max_vars, full_nodes}
 use Rattle.inference.specs.Constraints.{max_exprs, max_constraints, max_overloads, max_sources, max_components}
 use Rattle.inference.specs.Constraints.{constraint_words, overload_words, name_words}
@@ -66,6 +67,9 @@ list_choices_at = list_measure_at + max_components
 abbrev pub list_scratch_at : ℕ
 list_scratch_at = list_choices_at + list_choice_words
 
+abbrev pub list_index_at : ℕ
+list_index_at = list_scratch_at + scratch_words
+
 -- the lists by number
 abbrev pub sort_list : ℕ
 sort_list = 0
@@ -99,7 +103,7 @@ source_list = 9
 
 -- rows given of list k: one word for each list, which stops at most_rows
 abbrev pub rows_at : ℕ
-rows_at = list_scratch_at + scratch_words
+rows_at = list_index_at + slots
 
 abbrev pub most_rows : ℕ
 most_rows = 65535
@@ -119,16 +123,17 @@ abbrev pub counts_told_at : ℕ
 counts_told_at = counts_at + 10
 
 -- The length that a `lend` line tells of slice j, and 1 where one told it. The slices: 0 sorts, 1 nodes, 2 bindings,
--- 3 expressions, 4 base names, 5 constraints, 6 overloads, 7 sources, 8 scratch, 9 typing, 10 measure, 11 choices.
+-- 3 expressions, 4 base names, 5 constraints, 6 overloads, 7 sources, 8 scratch, 9 index, 10 typing, 11 measure,
+-- 12 choices.
 abbrev pub lent_at : ℕ
 lent_at = counts_told_at + 10
 
 abbrev pub lent_told_at : ℕ
-lent_told_at = lent_at + 12
+lent_told_at = lent_at + 13
 
 -- how far the list is read: no list yet, lines of the list may come, a question was asked, a line was not of the format
 abbrev pub stage_at : ℕ
-stage_at = lent_told_at + 12
+stage_at = lent_told_at + 13
 
 abbrev pub no_list : ℕ
 no_list = 0
@@ -154,7 +159,7 @@ a_join = 2
 
 -- all words; a few behind the last are free
 abbrev pub memory_words : ℕ
-memory_words = 34112
+memory_words = 36160
 
 -- the words after a line, and what came of it: what was expected, of a line that is not of the format
 pub record Taken : Type 0 where

@@ -10,7 +10,7 @@ use inference::{
     CHOICE_WORDS, CONSTRAINT_WORDS, MAX_COMPONENTS, MAX_CONSTRAINTS, MAX_EXPRS, MAX_OVERLOADS,
     MAX_SOURCES, NAME_WORDS, OVERLOAD_WORDS, SCRATCH_WORDS, TYPING_WORDS,
 };
-use resolved_sort::{ENTRIES_AT, MAX_ENTRIES, MAX_SORTS, ROW_WORDS, SORT_WORDS};
+use resolved_sort::{ENTRIES_AT, MAX_ENTRIES, MAX_SORTS, ROW_WORDS, SLOTS, SORT_WORDS};
 use unification::{MAX_NODE_ENTRIES, MAX_NODES, MAX_VARS, NODE_ENTRIES_AT, NODE_WORDS};
 use words::word;
 
@@ -121,6 +121,7 @@ pub enum Slice {
     Overloads,
     Sources,
     Scratch,
+    Index,
     Typing,
     Measure,
     Choices,
@@ -197,7 +198,7 @@ pub fn rows_given(list: &[u16], table: Table) -> u16
 impl Slice {
     pub fn number(self) -> usize
         ensures number { result ≡ slice_number self }
-        ensures within { result ≤ 11 }
+        ensures within { result ≤ 12 }
     {
         self as usize
     }
@@ -261,12 +262,14 @@ pub const LIST_CHOICES_AT: usize = LIST_MEASURE_AT + MAX_COMPONENTS;
 
 pub const LIST_SCRATCH_AT: usize = LIST_CHOICES_AT + LIST_CHOICE_WORDS;
 
+pub const LIST_INDEX_AT: usize = LIST_SCRATCH_AT + SCRATCH_WORDS;
+
 // Behind the slices: the rows given of each list; the default sort; the count that a `count` line tells of each list,
 // and whether one told it; the length that a `lend` line tells of each slice, and whether one told it; how far the list
 // is read; and the kind of the last constraint line. A few words more are free.
 // kept: that a line told it is a word beside each count and length, and no Option: all are words of the list, as Stage
 // is and for its reason; list_call::told reads both as an Option.
-pub const ROWS_AT: usize = LIST_SCRATCH_AT + SCRATCH_WORDS;
+pub const ROWS_AT: usize = LIST_INDEX_AT + SLOTS;
 
 pub const DEFAULT_AT: usize = ROWS_AT + 10;
 
@@ -276,10 +279,10 @@ pub const COUNTS_TOLD_AT: usize = COUNTS_AT + 10;
 
 pub const LENT_AT: usize = COUNTS_TOLD_AT + 10;
 
-pub const LENT_TOLD_AT: usize = LENT_AT + 12;
+pub const LENT_TOLD_AT: usize = LENT_AT + 13;
 
-pub const STAGE_AT: usize = LENT_TOLD_AT + 12;
+pub const STAGE_AT: usize = LENT_TOLD_AT + 13;
 
 pub const LAST_AT: usize = STAGE_AT + 1;
 
-pub const LIST_WORDS: usize = 34112;
+pub const LIST_WORDS: usize = 36160;

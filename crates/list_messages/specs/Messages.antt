@@ -48,7 +48,7 @@ form_text Count =
     ++ bytes_of "constraints, overloads or sources"
 form_text Lend =
     bytes_of "lend WHAT N, where WHAT is sorts, nodes, bindings, exprs, names, constraints, overloads, "
-    ++ bytes_of "sources, scratch, out-typing, out-measure or out-choices"
+    ++ bytes_of "sources, scratch, index, out-typing, out-measure or out-choices"
 form_text Ceilings = bytes_of "no ceilings line: this program has the fixed ceilings"
 form_text Asks = bytes_of "? solve, or another question of the format"
 

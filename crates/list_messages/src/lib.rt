@@ -54,7 +54,7 @@ fn expected(form: Form) -> &'static [u8]
             constraints, overloads or sources",
         Form::Lend =>
             b"lend WHAT N, where WHAT is sorts, nodes, bindings, exprs, names, constraints, overloads, \
-            sources, scratch, out-typing, out-measure or out-choices",
+            sources, scratch, index, out-typing, out-measure or out-choices",
         Form::Ceilings => b"no ceilings line: this program has the fixed ceilings",
         Form::Asks => b"? solve, or another question of the format",
     }

@@ -37,8 +37,8 @@ told ws places (text ∷ texts) = let r = line_taken ws (bytes_of text) in first
 
 -- a list that has begun, without the fixed six
 lines_of_a_list :
-    told (set (replicate 34112 0) 34103 1) (23040 ∷ 23041 ∷ 23042 ∷ 23043 ∷ 23044 ∷ 23045 ∷ 24320 ∷ 24321 ∷ 24322 ∷
-    24323 ∷ 34048 ∷ 34049 ∷ 34050 ∷ 34051 ∷ 34052 ∷ 34053 ∷ 34054 ∷ 34055 ∷ 34056 ∷ 34057 ∷ 34103 ∷ 34104 ∷ [])
+    told (set (replicate 36160 0) 36153 1) (23040 ∷ 23041 ∷ 23042 ∷ 23043 ∷ 23044 ∷ 23045 ∷ 24320 ∷ 24321 ∷ 24322 ∷
+    24323 ∷ 36096 ∷ 36097 ∷ 36098 ∷ 36099 ∷ 36100 ∷ 36101 ∷ 36102 ∷ 36103 ∷ 36104 ∷ 36105 ∷ 36153 ∷ 36154 ∷ [])
     ("disjunction e0 n0"
     ∷ "overload op Nat n0"
     ∷ [])
@@ -77,7 +77,7 @@ lines_before_a_list = refl
 
 -- of several lists: a line not of the format ends the first, and the others begin anew
 lines_of_lists :
-    told [] (34048 ∷ 34053 ∷ 34058 ∷ 34071 ∷ 34103 ∷ [])
+    told [] (36096 ∷ 36101 ∷ 36106 ∷ 36119 ∷ 36153 ∷ [])
     ("sub n0 n1"
     ∷ "list first"
     ∷ "expr e0 Nat"

@@ -206,6 +206,6 @@ list_line_begins_a_list ws line s =
 pub new_list_has_the_fixed_six_and_bool :
     begun []
     ≡ (0 ∷ 0 ∷ 0 ∷ 0 ∷ 1 ∷ 0 ∷ 0 ∷ 0 ∷ 2 ∷ 0 ∷ 0 ∷ 0 ∷ 3 ∷ 0 ∷ 0 ∷ 0 ∷ 4 ∷ 0 ∷ 0 ∷ 0 ∷ 5 ∷ 0 ∷ 0 ∷ 0 ∷ [])
-    ++ (replicate 34024 0 ++ (6 ∷ (replicate 9 0 ++ (1 ∷ (replicate 44 0 ++ (1 ∷ replicate 8 0))))))
+    ++ (replicate 36072 0 ++ (6 ∷ (replicate 9 0 ++ (1 ∷ (replicate 46 0 ++ (1 ∷ replicate 6 0))))))
 unfolding begun zeros Storage.fixed_rows
 new_list_has_the_fixed_six_and_bool = refl

@@ -62,6 +62,7 @@ each_word_is_read_as_itself Keyword.Constraints = refl
 each_word_is_read_as_itself Keyword.Overloads = refl
 each_word_is_read_as_itself Keyword.Sources = refl
 each_word_is_read_as_itself Keyword.Scratch = refl
+each_word_is_read_as_itself Keyword.Index = refl
 each_word_is_read_as_itself Keyword.OutTyping = refl
 each_word_is_read_as_itself Keyword.OutMeasure = refl
 each_word_is_read_as_itself Keyword.OutChoices = refl

@@ -56,6 +56,7 @@ spelling Keyword.Constraints = bytes_of "constraints"
 spelling Keyword.Overloads = bytes_of "overloads"
 spelling Keyword.Sources = bytes_of "sources"
 spelling Keyword.Scratch = bytes_of "scratch"
+spelling Keyword.Index = bytes_of "index"
 spelling Keyword.OutTyping = bytes_of "out-typing"
 spelling Keyword.OutMeasure = bytes_of "out-measure"
 spelling Keyword.OutChoices = bytes_of "out-choices"
@@ -123,21 +124,22 @@ place_of Keyword.Constraints = 45
 place_of Keyword.Overloads = 46
 place_of Keyword.Sources = 47
 place_of Keyword.Scratch = 48
-place_of Keyword.OutTyping = 49
-place_of Keyword.OutMeasure = 50
-place_of Keyword.OutChoices = 51
-place_of Keyword.Solve = 52
-place_of Keyword.Unify = 53
-place_of Keyword.PartialCmp = 54
-place_of Keyword.Meet = 55
-place_of Keyword.WideningDistance = 56
-place_of Keyword.IsMaterializable = 57
-place_of Keyword.Unit = 58
-place_of Keyword.Bool = 59
-place_of Keyword.Pos = 60
-place_of Keyword.Nat = 61
-place_of Keyword.Int = 62
-place_of Keyword.Real = 63
+place_of Keyword.Index = 49
+place_of Keyword.OutTyping = 50
+place_of Keyword.OutMeasure = 51
+place_of Keyword.OutChoices = 52
+place_of Keyword.Solve = 53
+place_of Keyword.Unify = 54
+place_of Keyword.PartialCmp = 55
+place_of Keyword.Meet = 56
+place_of Keyword.WideningDistance = 57
+place_of Keyword.IsMaterializable = 58
+place_of Keyword.Unit = 59
+place_of Keyword.Bool = 60
+place_of Keyword.Pos = 61
+place_of Keyword.Nat = 62
+place_of Keyword.Int = 63
+place_of Keyword.Real = 64
 
 abbrev pub same_word : Keyword → Keyword → Bool
 same_word a b = eqb (place_of a) (place_of b)
@@ -151,7 +153,7 @@ keywords =
     ∷ Keyword.SetOf ∷ Keyword.FSetOf ∷ Keyword.BagOf ∷ Keyword.FBagOf ∷ Keyword.Fn ∷ Keyword.Def ∷ Keyword.TypeVar
     ∷ Keyword.Raw ∷ Keyword.Arrow ∷ Keyword.Variable ∷ Keyword.Op ∷ Keyword.Builtin ∷ Keyword.Positive
     ∷ Keyword.Natural ∷ Keyword.Sorts ∷ Keyword.Nodes ∷ Keyword.Bindings ∷ Keyword.Exprs ∷ Keyword.Names
-    ∷ Keyword.Constraints ∷ Keyword.Overloads ∷ Keyword.Sources ∷ Keyword.Scratch ∷ Keyword.OutTyping
+    ∷ Keyword.Constraints ∷ Keyword.Overloads ∷ Keyword.Sources ∷ Keyword.Scratch ∷ Keyword.Index ∷ Keyword.OutTyping
     ∷ Keyword.OutMeasure ∷ Keyword.OutChoices ∷ Keyword.Solve ∷ Keyword.Unify ∷ Keyword.PartialCmp ∷ Keyword.Meet
     ∷ Keyword.WideningDistance ∷ Keyword.IsMaterializable ∷ Keyword.Unit ∷ Keyword.Bool ∷ Keyword.Pos ∷ Keyword.Nat
     ∷ Keyword.Int ∷ Keyword.Real ∷ []

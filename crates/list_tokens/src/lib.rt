@@ -64,6 +64,7 @@ pub enum Keyword {
     Overloads,
     Sources,
     Scratch,
+    Index,
     OutTyping,
     OutMeasure,
     OutChoices,
@@ -105,7 +106,7 @@ pub enum Start {
 
 // The words of the format, in the order in which a word is looked up.
 // kept: a list by hand, since an enum has no list of its variants; the definition `keywords` has the same order.
-const KEYWORDS: [Keyword; 64] = [
+const KEYWORDS: [Keyword; 65] = [
     Keyword::List,
     Keyword::Bare,
     Keyword::Sort,
@@ -155,6 +156,7 @@ const KEYWORDS: [Keyword; 64] = [
     Keyword::Overloads,
     Keyword::Sources,
     Keyword::Scratch,
+    Keyword::Index,
     Keyword::OutTyping,
     Keyword::OutMeasure,
     Keyword::OutChoices,
@@ -229,6 +231,7 @@ impl Keyword {
             Keyword::Overloads => b"overloads",
             Keyword::Sources => b"sources",
             Keyword::Scratch => b"scratch",
+            Keyword::Index => b"index",
             Keyword::OutTyping => b"out-typing",
             Keyword::OutMeasure => b"out-measure",
             Keyword::OutChoices => b"out-choices",

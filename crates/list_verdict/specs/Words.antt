@@ -31,7 +31,7 @@ verdict_messages =
     ∷ bytes_of "a join has no sources, or there are more than 256 components"
     ∷ bytes_of "the default sort is not in the list"
     ∷ []
-    ∷ bytes_of "an output, the scratch, or the storage of sorts or nodes is too short"
+    ∷ bytes_of "an output, the scratch, the index, or the storage of sorts or nodes is too short"
     ∷ bytes_of "the search has no room for a new sort"
     ∷ bytes_of "the search has no room for a new node"
     ∷ bytes_of "no typing found"

@@ -67,7 +67,7 @@ fn message(code: u16) -> &'static [u8]
         10 => b"two disjunctions, or two base names, are for one expression",
         11 => b"a join has no sources, or there are more than 256 components",
         12 => b"the default sort is not in the list",
-        14 => b"an output, the scratch, or the storage of sorts or nodes is too short",
+        14 => b"an output, the scratch, the index, or the storage of sorts or nodes is too short",
         15 => b"the search has no room for a new sort",
         16 => b"the search has no room for a new node",
         17 => b"no typing found",
