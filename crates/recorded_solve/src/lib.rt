@@ -9,7 +9,7 @@
 // A line that starts with `#` says nothing.
 //
 // The slices: 0 sorts, 1 nodes, 2 bindings, 3 places of expressions, 4 base names, 5 constraints, 6 overloads, 7
-// sources, 8 typing, 9 measure, 10 choices, 11 scratch. They stand one after another, each as long as
+// sources, 8 typing, 9 measure, 10 choices, 11 scratch, 12 index. They stand one after another, each as long as
 // its ceiling, and after them the eleven numbers of the line `L`.
 #![tactic(auto)]
 
@@ -27,14 +27,14 @@ use inference::{
     MAX_SOURCES, NAME_WORDS, OVERLOAD_WORDS, SCRATCH_WORDS, TYPING_WORDS,
 };
 use replay::{Recorded, Verdict, store};
-use resolved_sort::{SORT_WORDS, SortId};
+use resolved_sort::{SLOTS, SORT_WORDS, SortId};
 use solve_checks::Given;
 use solve_entries::sort_solve;
 use unification::{MAX_VARS, NODE_WORDS};
 use words::{BIT_8, BIT_24, BIT_40, BIT_52, MOST_WORD, copied, copy, word};
 
 // Where the slices stand in the words held, after the sorts, each at its ceiling (base names, which have none, have as
-// many rows as there are expressions); and after the scratch the counts, the last of which is the default sort.
+// many rows as there are expressions); and after the index the counts, the last of which is the default sort.
 const NODES_AT: usize = SORT_WORDS;
 
 const BINDS_AT: usize = NODES_AT + NODE_WORDS;
@@ -57,7 +57,9 @@ const CHOICES_AT: usize = MEASURE_AT + MAX_COMPONENTS;
 
 const SCRATCH_AT: usize = CHOICES_AT + CHOICES_ROOM;
 
-const COUNTS_AT: usize = SCRATCH_AT + SCRATCH_WORDS;
+const INDEX_AT: usize = SCRATCH_AT + SCRATCH_WORDS;
+
+const COUNTS_AT: usize = INDEX_AT + SLOTS;
 
 const DEFAULT_AT: usize = COUNTS_AT + 10;
 
@@ -79,7 +81,7 @@ const MOST_CODE: u64 = 255;
 const MOST_HANDED: u64 = 4095;
 
 // The slices of a list, in the order in which they stand and in which a line numbers them.
-// kept: beside Slice of list_memory, which stands in another order: a recorded line has the scratch last.
+// kept: beside Slice of list_memory, which stands in another order: a recorded line has scratch and index last.
 #[derive(Clone, Copy, Debug, PartialEq, Eq)]
 pub enum Slice {
     Sorts,
@@ -94,6 +96,7 @@ pub enum Slice {
     Measure,
     Choices,
     Scratch,
+    Index,
 }
 
 // A number of a line that is no slice's.
@@ -134,6 +137,7 @@ pub struct Slices {
     pub nodes: [u16; NODE_WORDS],
     pub binds: [u16; MAX_VARS],
     pub scratch: [u16; SCRATCH_WORDS],
+    pub index: [u16; SLOTS],
     pub typing: [u16; TYPING_ROOM],
     pub measure: [u16; MAX_COMPONENTS],
     pub choices: [u16; CHOICES_ROOM],
@@ -181,6 +185,7 @@ impl TryFrom<u64> for Slice {
             9 => Ok(Slice::Measure),
             10 => Ok(Slice::Choices),
             11 => Ok(Slice::Scratch),
+            12 => Ok(Slice::Index),
             _ => Err(NoSlice(number)),
         }
     }
@@ -206,7 +211,8 @@ impl Slice {
             Slice::Typing => (TYPING_AT, MEASURE_AT),
             Slice::Measure => (MEASURE_AT, CHOICES_AT),
             Slice::Choices => (CHOICES_AT, SCRATCH_AT),
-            Slice::Scratch => (SCRATCH_AT, COUNTS_AT),
+            Slice::Scratch => (SCRATCH_AT, INDEX_AT),
+            Slice::Index => (INDEX_AT, COUNTS_AT),
         }
     }
 }
@@ -298,6 +304,7 @@ impl Slices {
             nodes: copied(given, NODES_AT),
             binds: copied(given, BINDS_AT),
             scratch: copied(given, SCRATCH_AT),
+            index: copied(given, INDEX_AT),
             typing: copied(given, TYPING_AT),
             measure: copied(given, MEASURE_AT),
             choices: copied(given, CHOICES_AT),
@@ -331,6 +338,7 @@ impl Slices {
             counts.sources,
             counts.default.0,
             &mut self.scratch,
+            &mut self.index,
             &mut self.typing,
             &mut self.measure,
             &mut self.choices,
@@ -345,6 +353,7 @@ impl Slices {
         copy(left, NODES_AT, &self.nodes, 0, NODE_WORDS);
         copy(left, BINDS_AT, &self.binds, 0, MAX_VARS);
         copy(left, SCRATCH_AT, &self.scratch, 0, SCRATCH_WORDS);
+        copy(left, INDEX_AT, &self.index, 0, SLOTS);
         copy(left, TYPING_AT, &self.typing, 0, TYPING_ROOM);
         copy(left, MEASURE_AT, &self.measure, 0, MAX_COMPONENTS);
         copy(left, CHOICES_AT, &self.choices, 0, CHOICES_ROOM);

@@ -15,10 +15,11 @@ use Rattle.replay.specs.Replays.{numbers_step, step_of}
 use Rattle.recorded_sorts.specs.declared.Question.{Question}
 use Rattle.recorded_sorts.specs.declared.Letter.{Letter}
 use Rattle.recorded_sorts.specs.declared.RecordedSorts.{RecordedSorts}
-use Rattle.recorded_sorts.specs.Inner.Lines.{letter_of, complete, not_of_form, with_progress, begin_line, packed_answer, ask_line, by_letter}
+use Rattle.recorded_sorts.specs.Inner.Lines.{letter_of, complete, not_of_form, with_progress, begin_line, index_answer, checked_index}
+use Rattle.recorded_sorts.specs.Inner.Lines.{packed_answer, ask_line, by_letter}
 
-pub packed_left : (ws : List ℕ) (n : ℕ) (p : PackedSorts) → packed_sorts ws n ≡ p → n ≡ p.result
-packed_left ws n p e = ap (λ (l : PackedSorts). l.result) e
+pub packed_left : (ws ix : List ℕ) (n : ℕ) (p : PackedSorts) (r : ℕ) → r ≡ index_answer ix n → packed_sorts ws ix n ≡ p → r ≡ checked_index p
+packed_left ws ix n p r x e = x ∙ ap checked_index e
 
 -- a line that begins a list
 module _ (l : RecordedSorts) (ns : List ℕ) (r : RecordedSorts × Verdict) (bad : r ≡ not_of_form l) where

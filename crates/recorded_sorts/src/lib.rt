@@ -2,25 +2,33 @@
 // `L n e` begins a list of n sorts and e argument entries; `r kind part start count` is its next row; `a w ..` its next
 // entries, at most 16; `c a b x`, `d a b x`, `m a b x`, `j a b x` and `k a b x` ask partial_cmp, widening_distance,
 // is_materializable, join and meet of the sorts a and b, and x is the answer, packed; a line that starts with `#` says
-// nothing.
+// nothing. Join and meet are lent an index full of junk: one that they do not leave as they must is an answer that differs.
 #![tactic(auto)]
 
-ghost use Rattle.std.specs.Prelude.{◌≡◌, ◌≤◌};
+ghost use Rattle.std.specs.Prelude.{◌≡◌, ◌≤◌, eqb};
+ghost use Rattle.std.specs.List.{list_all};
 ghost use Rattle.replay.specs.Inner.Lines.{near_enough};
 ghost use Rattle.recorded_sorts.specs.Inner.Lines.{letter_of, complete as is_complete, keep_of};
-ghost use Rattle.recorded_sorts.specs.Inner.Lines.{begin_line, row_line, run_line, packed_answer, ask_line};
+ghost use Rattle.recorded_sorts.specs.Inner.Lines.{begin_line, row_line, run_line, index_word, index_answer, packed_answer, ask_line};
 ghost use Rattle.recorded_sorts.specs.Inner.Lines.{sorts_started};
 
 use replay::{MAX_WORDS, Recorded, Verdict, store};
-use resolved_sort::{ENTRIES_AT, MAX_ENTRIES, MAX_SORTS, ROW_WORDS, SORT_WORDS};
+use resolved_sort::{ENTRIES_AT, MAX_ENTRIES, MAX_SORTS, ROW_WORDS, SLOTS, SORT_WORDS};
 use sort_entries::{
     sort_is_materializable, sort_join, sort_meet, sort_partial_cmp, sort_widening_distance,
 };
+use words::BIT_8;
 
 // The ceilings of a list, as numbers of a line.
 const SORTS: u64 = MAX_SORTS as u64;
 
 const ENTRIES: u64 = MAX_ENTRIES as u64;
+
+// What an index has all over it before a call.
+const JUNK: u16 = 41377;
+
+// In the place of an answer with an index that is not as it must be: it has a code that no answer has.
+const WRONG_INDEX: u64 = 255;
 
 // What is asked of two sorts.
 #[derive(Clone, Copy, Debug, PartialEq, Eq)]
@@ -88,7 +96,35 @@ impl Progress {
     }
 }
 
-// What an entry answers on a list, which stays as it is: join and meet work on a copy.
+// The word that the index must have all over it after this answer: the junk that it was lent with after a refusal by
+// one of the checks 1 to 14, else zero.
+fn index_word(answer: u64) -> u16
+    ensures { result ≡ index_word answer }
+{
+    let code = answer % BIT_8;
+    if 1 <= code && code <= 14 { JUNK } else { 0 }
+}
+
+// Whether an index has this word all over it.
+fn all_are(index: &[u16], word: u16) -> bool
+    ensures { result ≡ list_all (λ held. eqb held word) index.now }
+{
+    index.iter().all(|&held| held == word)
+}
+
+// The answer, where the index that was lent full of junk is left as it must be.
+#[tactic(auto, unfolding(crate::specs::Inner::Lines::index_answer))]
+fn index_answer(index: &[u16], answer: u64) -> u64
+    ensures { result ≡ index_answer index.now answer }
+{
+    if all_are(index, index_word(answer)) {
+        answer
+    } else {
+        WRONG_INDEX
+    }
+}
+
+// What an entry answers on a list, which stays as it is: join and meet work on a copy, with an index full of junk.
 // kept: a match and no function handed in, since two of the five entries change their list and work on a copy.
 #[tactic(auto, unfolding(crate::specs::Inner::Lines::packed_answer), using(crate::proofs::Steps::packed_left))]
 fn ask(
@@ -107,11 +143,15 @@ fn ask(
         Question::IsMaterializable => sort_is_materializable(list, sorts, entries, lhs, rhs),
         Question::Join => {
             let mut copy = *list;
-            sort_join(&mut copy, sorts, entries, lhs, rhs)
+            let mut index = [JUNK; SLOTS];
+            let answer = sort_join(&mut copy, sorts, entries, &mut index, lhs, rhs);
+            index_answer(&index, answer)
         }
         Question::Meet => {
             let mut copy = *list;
-            sort_meet(&mut copy, sorts, entries, lhs, rhs)
+            let mut index = [JUNK; SLOTS];
+            let answer = sort_meet(&mut copy, sorts, entries, &mut index, lhs, rhs);
+            index_answer(&index, answer)
         }
     }
 }

@@ -18,7 +18,7 @@ abbrev pub counts : ℕ
 counts = 11
 
 abbrev pub held_words : ℕ
-held_words = 34059
+held_words = 36107
 
 abbrev pub most_code : ℕ
 most_code = 255

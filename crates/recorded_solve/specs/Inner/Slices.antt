@@ -10,7 +10,7 @@ use Rattle.recorded_solve.specs.declared.Count.{Count}
 use Rattle.recorded_solve.specs.declared.Slices.{Slices}
 
 -- Where each slice starts: sorts, nodes, bindings, places of expressions, base names, constraints, overloads, sources,
--- typing, measure, choices, scratch; and where the counts start.
+-- typing, measure, choices, scratch, index; and where the counts start.
 abbrev pub held_nodes_at : ℕ
 held_nodes_at = 8192
 
@@ -44,14 +44,17 @@ held_choices_at = 29440
 abbrev pub held_scratch_at : ℕ
 held_scratch_at = 29952
 
+abbrev pub held_index_at : ℕ
+held_index_at = 34048
+
 abbrev pub held_counts_at : ℕ
-held_counts_at = 34048
+held_counts_at = 36096
 
 abbrev pub slice_starts : List ℕ
 slice_starts =
     0 ∷ held_nodes_at ∷ held_binds_at ∷ held_exprs_at ∷ held_names_at ∷ held_constraints_at ∷ held_overloads_at ∷ held_sources_at
     ∷ held_typing_at ∷ held_measure_at
-    ∷ held_choices_at ∷ held_scratch_at ∷ held_counts_at ∷ []
+    ∷ held_choices_at ∷ held_scratch_at ∷ held_index_at ∷ held_counts_at ∷ []
 
 unfoldable pub slice_start : ℕ → ℕ
 slice_start k = get_or slice_starts k 0
@@ -70,9 +73,10 @@ slice_number Slice.Typing = 8
 slice_number Slice.Measure = 9
 slice_number Slice.Choices = 10
 slice_number Slice.Scratch = 11
+slice_number Slice.Index = 12
 
 abbrev pub last_slice : ℕ
-last_slice = 11
+last_slice = 12
 
 abbrev pub slice_of : ℕ → List ℕ → List ℕ
 slice_of k ws = part (slice_start k) (slice_start (k + 1) - slice_start k) ws
@@ -110,8 +114,8 @@ counts_held ws =
     }
 
 -- a call about words held, with the slices that it may change
-abbrev pub call_held_with : List ℕ → Given → (sorts nodes binds scratch typing measure choices : List ℕ) → Call
-call_held_with ws k ss ns bs xs ts ms cs =
+abbrev pub call_held_with : List ℕ → Given → (sorts nodes binds scratch index typing measure choices : List ℕ) → Call
+call_held_with ws k ss ns bs xs ix ts ms cs =
     record {
       sorts = ss;
       nodes = ns;
@@ -139,6 +143,7 @@ call_held_with ws k ss ns bs xs ts ms cs =
           };
       default = k.default.0;
       scratch = xs;
+      index = ix;
       typing = ts;
       measure = ms;
       choices = cs;
@@ -146,17 +151,17 @@ call_held_with ws k ss ns bs xs ts ms cs =
 
 abbrev pub call_held : List ℕ → Call
 call_held ws =
-    call_held_with ws (counts_held ws) (slice_of 0 ws) (slice_of 1 ws) (slice_of 2 ws) (slice_of 11 ws) (slice_of 8 ws)
-    (slice_of 9 ws) (slice_of 10 ws)
+    call_held_with ws (counts_held ws) (slice_of 0 ws) (slice_of 1 ws) (slice_of 2 ws) (slice_of 11 ws) (slice_of 12 ws)
+    (slice_of 8 ws) (slice_of 9 ws) (slice_of 10 ws)
 
 -- words held, with other slices in the places of those that a call may change
-abbrev pub kept_in : List ℕ → (sorts nodes binds scratch typing measure choices : List ℕ) → List ℕ
-kept_in ws ss ns bs xs ts ms cs =
-    sets (sets (sets (sets (sets (sets (sets ws 0 ss) held_nodes_at ns) held_binds_at bs) held_scratch_at xs) held_typing_at ts)
-    held_measure_at ms) held_choices_at cs
+abbrev pub kept_in : List ℕ → (sorts nodes binds scratch index typing measure choices : List ℕ) → List ℕ
+kept_in ws ss ns bs xs ix ts ms cs =
+    sets (sets (sets (sets (sets (sets (sets (sets ws 0 ss) held_nodes_at ns) held_binds_at bs) held_scratch_at xs) held_index_at ix)
+    held_typing_at ts) held_measure_at ms) held_choices_at cs
 
 abbrev pub left_held : List ℕ → PackedSolve → List ℕ
-left_held ws p = kept_in ws p.sorts p.nodes p.binds p.scratch p.typing p.measure p.choices
+left_held ws p = kept_in ws p.sorts p.nodes p.binds p.scratch p.index p.typing p.measure p.choices
 
 -- the slices that a call may change, as one
 abbrev pub slices_held : List ℕ → Slices
@@ -166,16 +171,17 @@ slices_held ws =
       nodes = slice_of 1 ws;
       binds = slice_of 2 ws;
       scratch = slice_of 11 ws;
+      index = slice_of 12 ws;
       typing = slice_of 8 ws;
       measure = slice_of 9 ws;
       choices = slice_of 10 ws;
     }
 
 abbrev pub call_held_in : List ℕ → Slices → Call
-call_held_in ws s = call_held_with ws (counts_held ws) s.sorts s.nodes s.binds s.scratch s.typing s.measure s.choices
+call_held_in ws s = call_held_with ws (counts_held ws) s.sorts s.nodes s.binds s.scratch s.index s.typing s.measure s.choices
 
 abbrev pub packed_of : Slices → ℕ → PackedSolve
-packed_of s r = packed_solve r s.sorts s.nodes s.binds s.scratch s.typing s.measure s.choices
+packed_of s r = packed_solve r s.sorts s.nodes s.binds s.scratch s.index s.typing s.measure s.choices
 
 abbrev pub slices_kept : List ℕ → Slices → List ℕ
-slices_kept ws s = kept_in ws s.sorts s.nodes s.binds s.scratch s.typing s.measure s.choices
+slices_kept ws s = kept_in ws s.sorts s.nodes s.binds s.scratch s.index s.typing s.measure s.choices

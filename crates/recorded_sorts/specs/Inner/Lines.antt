@@ -1,10 +1,13 @@
 -- What a recorded line about sorts says, and what comes of it.
-use Rattle.std.specs.Prelude.{Bool, true, false, cond, List, ℕ, ◌+◌, ◌*◌, ltb, leb, eqb, length, get_or, replicate}
+use Rattle.std.specs.Prelude.{Bool, true, false, cond, ◌&&◌, List, ℕ, ◌+◌, ◌*◌, ◌%◌, ltb, leb, eqb, length, get_or, replicate}
+use Rattle.std.specs.List.{list_all}
 use Prim.Native.Char.{code}
 use Rattle.words.specs.Inner.Bits.{most_word}
 use Rattle.resolved_sort.specs.Storage.{max_sorts, max_entries, row_words, entries_at, full_length}
-use Rattle.resolved_sort.specs.Entries.{compared, measured, materialized, bounded}
-use Rattle.sort_entries.specs.Packed.{pack_compared, pack_measured, pack_materialized, pack_bounded}
+use Rattle.resolved_sort.specs.Entries.{compared, measured, materialized}
+use Rattle.resolved_sort.specs.JoinMeet.{bounded}
+use Rattle.resolved_sort.specs.Index.{slots}
+use Rattle.sort_entries.specs.Packed.{pack_compared, pack_measured, pack_materialized, PackedSorts, pack_sorts_left}
 use Rattle.recorded_sorts.specs.declared.Question.{Question}
 use Rattle.recorded_sorts.specs.declared.Question.TheVariants.{PartialCmp, WideningDistance}
 use Rattle.recorded_sorts.specs.declared.Question.TheVariants.{IsMaterializable, Join, Meet}
@@ -76,13 +79,28 @@ run_line l ns =
     (cond (ltb l.progress.entries (l.progress.filled + length ns)) (not_of_form l)
     (keep_of l (entries_at + l.progress.filled) ns (record l.progress { filled = l.progress.filled + length ns })))
 
+-- what an index has all over it before a call
+abbrev pub junk : ℕ
+junk = 41377
+
+-- and after it: as it was lent after a refusal by one of the checks 1 to 14, else zero
+abbrev pub index_word : ℕ → ℕ
+index_word p = cond (leb 1 (p % 256) && leb (p % 256) 14) junk 0
+
+-- the packed answer, where the index is as it must be; else a number that is none
+unfoldable pub index_answer : List ℕ → ℕ → ℕ
+index_answer ix p = cond (list_all (λ w. eqb w (index_word p)) ix) p 255
+
+abbrev pub checked_index : PackedSorts → ℕ
+checked_index l = index_answer l.index l.result
+
 -- what an entry answers on a list, packed
 unfoldable pub packed_answer : Question → List ℕ → ℕ → ℕ → ℕ → ℕ → ℕ
 packed_answer PartialCmp ws n e a b = pack_compared (compared ws n e a b)
 packed_answer WideningDistance ws n e a b = pack_measured (measured ws n e a b)
 packed_answer IsMaterializable ws n e a b = pack_materialized (materialized ws n e a b)
-packed_answer Join ws n e a b = pack_bounded (bounded true ws n e a b).answer
-packed_answer Meet ws n e a b = pack_bounded (bounded false ws n e a b).answer
+packed_answer Join ws n e a b = checked_index (pack_sorts_left (bounded true ws (replicate slots junk) n e a b))
+packed_answer Meet ws n e a b = checked_index (pack_sorts_left (bounded false ws (replicate slots junk) n e a b))
 
 -- a question about two sorts of a complete list, and the recorded answer
 unfoldable pub ask_line : RecordedSorts → Question → List ℕ → Verdict

@@ -12,4 +12,4 @@ unfolding slice_start solved
 returns c =
     c.sort_solve.ensures
     ∙ ap (λ k. solved (call_held_with c.args.given.now k c.args.self.now.sorts c.args.self.now.nodes c.args.self.now.binds
-    c.args.self.now.scratch c.args.self.now.typing c.args.self.now.measure c.args.self.now.choices)) c.counts_of-counts.ensures
+    c.args.self.now.scratch c.args.self.now.index c.args.self.now.typing c.args.self.now.measure c.args.self.now.choices)) c.counts_of-counts.ensures
