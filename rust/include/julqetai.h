@@ -18,10 +18,13 @@
 extern "C" {
 #endif
 
-/* Lengths in words below which storage and scratch are too short (14). */
+/* Lengths in words below which storage, scratch and index are too short (14). An entry that makes sorts finds them by an
+ * index, which is scratch of its own: its words may be anything, and are zero after the call, but for a refusal (1 to 14),
+ * which leaves them as they are. */
 #define JULQETAI_SORT_WORDS 8192
 #define JULQETAI_NODE_WORDS 12288
 #define JULQETAI_SCRATCH_WORDS 4096
+#define JULQETAI_INDEX_WORDS 2048
 
 /* Where the argument entries begin in sort and node storage. */
 #define JULQETAI_SORT_ENTRIES_AT 4096
@@ -57,6 +60,7 @@ uint64_t sort_solve_records(
     const uint16_t *sources, size_t sources_len, size_t source_count,
     uint16_t default_sort,
     uint16_t *scratch, size_t scratch_len,
+    uint16_t *index, size_t index_len,
     uint16_t *typing, size_t typing_len,
     uint16_t *measure, size_t measure_len,
     uint16_t *choices, size_t choices_len);
@@ -75,6 +79,7 @@ uint64_t sort_solve(
     const uint16_t *sources, size_t sources_len, size_t source_count,
     uint16_t default_sort,
     uint16_t *scratch, size_t scratch_len,
+    uint16_t *index, size_t index_len,
     uint16_t *typing, size_t typing_len,
     uint16_t *measure, size_t measure_len,
     uint16_t *choices, size_t choices_len);
@@ -115,10 +120,12 @@ uint64_t sort_widening_distance(
 
 /* Bits 16 to 31 are the sort, 32 to 47 the sorts and 48 to 63 the sort entries in storage after the call. */
 uint64_t sort_join(
-    uint16_t *sorts, size_t sorts_len, size_t sort_count, size_t entry_count, uint16_t lhs, uint16_t rhs);
+    uint16_t *sorts, size_t sorts_len, size_t sort_count, size_t entry_count,
+    uint16_t *index, size_t index_len, uint16_t lhs, uint16_t rhs);
 
 uint64_t sort_meet(
-    uint16_t *sorts, size_t sorts_len, size_t sort_count, size_t entry_count, uint16_t lhs, uint16_t rhs);
+    uint16_t *sorts, size_t sorts_len, size_t sort_count, size_t entry_count,
+    uint16_t *index, size_t index_len, uint16_t lhs, uint16_t rhs);
 
 /* libsort_writer.a
  *

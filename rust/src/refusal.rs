@@ -44,7 +44,7 @@ pub enum Refusal {
     BadMeasure = 11,
     /// The default sort is not in the list.
     BadDefault = 12,
-    /// An output or the scratch is too short. A [Workspace](crate::Workspace) lends enough of each.
+    /// An output, the scratch or the index is too short. A [Workspace](crate::Workspace) lends enough of each.
     TooShort = 14,
     /// In the search a new sort would exceed 1,024 sorts or 4,096 arguments.
     NoRoomForSort = 15,
@@ -112,7 +112,7 @@ impl fmt::Display for Refusal {
             Refusal::Twice => "two disjunctions, or two base names, are for one expression",
             Refusal::BadMeasure => "a Join has no sources, or there are more than 256 measure components",
             Refusal::BadDefault => "the default sort is not in the list",
-            Refusal::TooShort => "an output or the scratch is too short",
+            Refusal::TooShort => "an output, the scratch or the index is too short",
             Refusal::NoRoomForSort => "the search needs more than 1,024 sorts or 4,096 arguments of sorts",
             Refusal::NoRoomForNode => "the search needs more than 2,048 nodes or 4,096 arguments of nodes",
             Refusal::NoTyping => "the search ended with no typing",

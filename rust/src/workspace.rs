@@ -19,12 +19,13 @@ const MAX_EXPRESSIONS: usize = 512;
 const MAX_CONSTRAINTS: usize = 256;
 const MAX_COMPONENTS: usize = 256;
 const SCRATCH: usize = 4_096;
+const INDEX: usize = 2_048;
 
 /// Where the arguments begin in the storage of sorts and of nodes.
 const ENTRIES_AT: usize = 4 * MAX_SORTS;
 const NODE_ENTRIES_AT: usize = 4 * MAX_NODES;
 
-/// The memory that the library is lent, at its full ceilings: about 70 kB with what it keeps. [Workspace::solve] allocates nothing
+/// The memory that the library is lent, at its full ceilings: about 75 kB with what it keeps. [Workspace::solve] allocates nothing
 /// (a clone of a workspace may, the first time), but for a problem so large that the stack of a thread might not do: that one
 /// runs in a thread of its own with more, and where none can be had on the stack of the caller.
 ///
@@ -45,6 +46,8 @@ pub struct Workspace {
     nodes: Box<[u16]>,
     binds: Box<[u16]>,
     scratch: Box<[u16]>,
+    /// By which a search finds its sorts. Zero between calls, as the library leaves it.
+    index: Box<[u16]>,
     typing: Box<[[u16; 3]]>,
     measure: Box<[u16]>,
     choices: Box<[[u16; 2]]>,
@@ -95,6 +98,7 @@ impl Workspace {
             nodes: words(NODE_ENTRIES_AT + MAX_ENTRIES),
             binds: words(MAX_VARIABLES),
             scratch: words(SCRATCH),
+            index: words(INDEX),
             typing: vec![[0; 3]; MAX_EXPRESSIONS].into_boxed_slice(),
             measure: words(MAX_COMPONENTS),
             choices: vec![[0; 2]; MAX_CONSTRAINTS].into_boxed_slice(),
@@ -207,6 +211,7 @@ impl Workspace {
             source_count: problem.sources.len(),
             default: problem.default.0,
             scratch: &mut self.scratch,
+            index: &mut self.index,
             typing: self.typing.as_flattened_mut(),
             measure: &mut self.measure,
             choices: self.choices.as_flattened_mut(),

@@ -5,13 +5,14 @@ use super::*;
 /// Words that a call is lent, and how many rows the lists have. At first the fixed six sorts and one Sub.
 #[derive(Clone, Debug, PartialEq)]
 struct Words {
-    slices: [Vec<u16>; 11],
+    slices: [Vec<u16>; 12],
     overloads: Vec<OverloadRecord>,
     counts: [usize; 10],
     default: u16,
 }
 
 const SCRATCH: usize = 7;
+const INDEX: usize = 8;
 
 impl Words {
     fn new() -> Words {
@@ -29,6 +30,7 @@ impl Words {
             constraints,
             none(),
             vec![0; 4_096],
+            vec![0; 2_048],
             none(),
             vec![0; 1],
             none(),
@@ -37,7 +39,7 @@ impl Words {
     }
 
     fn solve(&mut self) -> u64 {
-        let [sorts, nodes, binds, exprs, names, constraints, sources, scratch, typing, measure, choices] =
+        let [sorts, nodes, binds, exprs, names, constraints, sources, scratch, index, typing, measure, choices] =
             &mut self.slices;
         let [sort_count, entry_count, node_count, node_entry_count, var_count, expr_count, name_count, ..] =
             self.counts;
@@ -63,6 +65,7 @@ impl Words {
             source_count,
             default: self.default,
             scratch,
+            index,
             typing,
             measure,
             choices,
@@ -70,18 +73,35 @@ impl Words {
     }
 }
 
-/// Outputs and scratch that are too short, which a workspace never lends, change nothing.
+/// Outputs, scratch and index that are too short, which a workspace never lends, change nothing.
 #[test]
 fn too_short() {
     let mut words = Words::new();
     assert_eq!(words.solve(), 6 << 8 | 1 << 40);
-    assert_eq!(words.slices[9], [3]);
-    for short in [0, 1, SCRATCH, 9] {
+    assert_eq!(words.slices[10], [3]);
+    for short in [0, 1, SCRATCH, INDEX, 10] {
         let mut words = Words::new();
         words.slices[short].pop();
         let before = words.clone();
         assert_eq!(words.solve(), 14, "slice {short}");
         assert_eq!(words, before);
+    }
+}
+
+/// Whatever an index of any length from 2,048 words on holds, the answer is the same, and it is zero at exit; a refusal leaves
+/// it as it is.
+#[test]
+fn index_words() {
+    for length in [2_048, 2_049, 4_096] {
+        let mut words = Words::new();
+        words.slices[INDEX] = (0..length).map(|word| (word * 40_503 + 1) as u16).collect();
+        let junk = words.slices[INDEX].clone();
+        assert_eq!(words.solve(), 6 << 8 | 1 << 40);
+        assert_eq!(words.slices[INDEX], vec![0; length]);
+        words.slices[INDEX] = junk.clone();
+        words.default = 6;
+        assert_eq!(words.solve(), 12);
+        assert_eq!(words.slices[INDEX], junk);
     }
 }
 
@@ -97,7 +117,7 @@ fn any_words() {
     for _ in 0..30_000 {
         let mut words = Words::new();
         for _ in 0..1 + next() % 8 {
-            let (slice, count) = (next() % 11, next() % 10);
+            let (slice, count) = (next() % 12, next() % 10);
             let length = words.slices[slice].len();
             match next() % 12 {
                 0 => words.counts[count] = [next() % 8, 1 << 16, usize::MAX, usize::MAX / 5 + 1, 1_024][next() % 5],

@@ -9,6 +9,8 @@ _Static_assert(sizeof(struct julqetai_overload) == 6, "three words");
 static uint16_t sorts[JULQETAI_SORT_WORDS];
 static uint16_t nodes[JULQETAI_NODE_WORDS];
 static uint16_t scratch[JULQETAI_SCRATCH_WORDS];
+static uint16_t index_words[JULQETAI_INDEX_WORDS];
+static uint16_t left_in_index = 0;
 
 /* The fixed six sorts, then Set(Nat). */
 static void put_sorts(void)
@@ -18,6 +20,18 @@ static void put_sorts(void)
         sorts[4 * kind] = kind;
     sorts[24] = 7;
     sorts[25] = 3;
+}
+
+/* An index may hold any words before a call, and has to be zero after it. */
+static void put_index(void)
+{
+    memset(index_words, 0xa5, sizeof index_words);
+}
+
+static void look_at_index(void)
+{
+    for (int word = 0; word < JULQETAI_INDEX_WORDS; word++)
+        left_in_index |= index_words[word];
 }
 
 /* Nodes 0 and 1 are variables, node 2 is FSet of the first. */
@@ -44,17 +58,19 @@ static void ask(const char *name, int records)
 
     put_sorts();
     put_nodes();
+    put_index();
     if (records)
         answer = sort_solve_records(sorts, JULQETAI_SORT_WORDS, 7, 0, nodes, JULQETAI_NODE_WORDS, 3, 0, binds, 2, 2,
             exprs, 3, 3, base, 3, 1, constraints, 20, 4, overloads, 2, 2, NULL, 0, 0, 1, scratch,
-            JULQETAI_SCRATCH_WORDS, typing, 9, measure, 2, choices, 4);
+            JULQETAI_SCRATCH_WORDS, index_words, JULQETAI_INDEX_WORDS, typing, 9, measure, 2, choices, 4);
 #ifdef SOLVE_ENTRIES
     else
         answer = sort_solve(sorts, JULQETAI_SORT_WORDS, 7, 0, nodes, JULQETAI_NODE_WORDS, 3, 0, binds, 2, 2, exprs, 3,
-            3, base, 3, 1, constraints, 20, 4, words, 6, 2, NULL, 0, 0, 1, scratch, JULQETAI_SCRATCH_WORDS, typing, 9,
-            measure, 2, choices, 4);
+            3, base, 3, 1, constraints, 20, 4, words, 6, 2, NULL, 0, 0, 1, scratch, JULQETAI_SCRATCH_WORDS, index_words,
+            JULQETAI_INDEX_WORDS, typing, 9, measure, 2, choices, 4);
 #endif
     (void)words;
+    look_at_index();
     printf("%s: code %u, sorts %zu, entries %zu, typing", name, julqetai_code(answer), julqetai_sorts(answer),
         julqetai_entries(answer));
     for (int word = 0; word < 9; word++)
@@ -91,8 +107,14 @@ int main(void)
         (unsigned long long)sort_is_materializable(sorts, JULQETAI_SORT_WORDS, 7, 0, 2, 5));
     printf("sort_widening_distance: %llx\n",
         (unsigned long long)sort_widening_distance(sorts, JULQETAI_SORT_WORDS, 7, 0, 2, 5));
-    printf("sort_join: %llx\n", (unsigned long long)sort_join(sorts, JULQETAI_SORT_WORDS, 7, 0, 2, 4));
-    printf("sort_meet: %llx\n", (unsigned long long)sort_meet(sorts, JULQETAI_SORT_WORDS, 7, 0, 2, 4));
+    put_index();
+    printf("sort_join: %llx\n",
+        (unsigned long long)sort_join(sorts, JULQETAI_SORT_WORDS, 7, 0, index_words, JULQETAI_INDEX_WORDS, 2, 4));
+    look_at_index();
+    put_index();
+    printf("sort_meet: %llx\n",
+        (unsigned long long)sort_meet(sorts, JULQETAI_SORT_WORDS, 7, 0, index_words, JULQETAI_INDEX_WORDS, 2, 4));
+    look_at_index();
 #endif
 #ifdef SORT_WRITER
     {
@@ -102,5 +124,5 @@ int main(void)
         printf("sort_write: %.*s\n", (int)answer, (const char *)out);
     }
 #endif
-    return 0;
+    return left_in_index != 0;
 }
