@@ -8,7 +8,7 @@
 #   --seed N       seed of the random numbers (default 7)
 counted=lists limit=--count whole=1000
 # Lists that the crate's types cannot say are the next class's too.
-shares=(small 250 short 40 damaged 70 words 40 few 120 edge 84 dropped 100 full 3 large 2 deep 1 solve 110 choice 90 join 90)
+shares=(small 240 short 40 damaged 70 words 40 few 120 edge 84 dropped 100 full 3 large 2 deep 1 clash 10 solve 110 choice 90 join 90)
 . "$(dirname "$0")/shared.sh"
 known=(questions seed)
 questions=100000

@@ -9,7 +9,7 @@
 #   --seed N       seed of the random numbers (default 7)
 layer=solve counted=lists limit=--count whole=1000
 crates=(solve_entries solve_records)
-shares=(small 250 few 120 solve 120 join 90 choice 90 dropped 100 edge 80 short 40 damaged 70 words 34 full 3 large 2 deep 1)
+shares=(small 236 few 120 solve 120 join 90 choice 90 dropped 100 edge 80 short 40 damaged 70 words 34 full 3 large 2 deep 1 clash 10 again 4)
 . "$(dirname "$0")/shared.sh"
 known=(stand-in questions seed)
 questions=1000000

@@ -27,5 +27,7 @@ some full-rows 0 50
 some full-entries 0 5000
 some damaged 0 20000
 some words 0 20000
+some clash 0 500
+some again 0 300
 
 echo "compare sorts: no difference"

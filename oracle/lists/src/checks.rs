@@ -28,12 +28,15 @@ struct Call<'a> {
     nodes: bool,
     /// Expressions, base names, constraints, a default, scratch and outputs are taken.
     constraints: bool,
+    /// Sorts may be made: an index is taken.
+    makes: bool,
 }
 
 impl<'a> Call<'a> {
     fn new(memory: &'a Memory, question: Question) -> Call<'a> {
         let nodes = matches!(question, Question::Solve | Question::Unify(..));
-        Call { memory, question, nodes, constraints: question == Question::Solve }
+        let makes = matches!(question, Question::Solve | Question::Join(..) | Question::Meet(..));
+        Call { memory, question, nodes, constraints: question == Question::Solve, makes }
     }
 
     fn of_sorts(&self, passes: fn(&Memory) -> bool) -> bool {
@@ -46,6 +49,10 @@ impl<'a> Call<'a> {
 
     fn of_constraints(&self, passes: fn(&Memory) -> bool) -> bool {
         !self.constraints || passes(self.memory)
+    }
+
+    fn of_making(&self, passes: fn(&Memory) -> bool) -> bool {
+        !self.makes || passes(self.memory)
     }
 }
 
@@ -66,7 +73,10 @@ const CHECKS: [(u16, Passes); 13] = [
     (11, |call| call.of_constraints(measure_defined)),
     (12, |call| asked_about(call.memory, call.question)),
     (14, |call| {
-        call.of_sorts(sort_storage_full) && call.of_nodes(node_storage_full) && call.of_constraints(outputs_full)
+        call.of_sorts(sort_storage_full)
+            && call.of_nodes(node_storage_full)
+            && call.of_constraints(outputs_full)
+            && call.of_making(index_full)
     }),
 ];
 
@@ -318,6 +328,10 @@ fn sort_storage_full(m: &Memory) -> bool {
 
 fn node_storage_full(m: &Memory) -> bool {
     m.nodes.len() >= NODE_STORAGE
+}
+
+fn index_full(m: &Memory) -> bool {
+    m.index >= INDEX
 }
 
 fn outputs_full(m: &Memory) -> bool {

@@ -111,13 +111,14 @@ pub enum Lent {
     Overloads,
     Sources,
     Scratch,
+    Index,
     OutTyping,
     OutMeasure,
     OutChoices,
 }
 
 impl Lent {
-    pub const ALL: [(Lent, &'static str); 12] = [
+    pub const ALL: [(Lent, &'static str); 13] = [
         (Lent::Sorts, "sorts"),
         (Lent::Nodes, "nodes"),
         (Lent::Bindings, "bindings"),
@@ -127,6 +128,7 @@ impl Lent {
         (Lent::Overloads, "overloads"),
         (Lent::Sources, "sources"),
         (Lent::Scratch, "scratch"),
+        (Lent::Index, "index"),
         (Lent::OutTyping, "out-typing"),
         (Lent::OutMeasure, "out-measure"),
         (Lent::OutChoices, "out-choices"),
@@ -268,8 +270,8 @@ impl Given {
         memory
     }
 
-    /// Outputs are lent at what the counts need, scratch at its full length, unless a line says
-    /// otherwise.
+    /// Outputs are lent at what the counts need, scratch and index at their full length, unless a
+    /// line says otherwise.
     fn lend_outputs(&self, memory: &mut Memory) {
         let readable = memory.constraint_count * CONSTRAINT <= memory.constraints.len();
         let (components, disjunctions) = match readable {
@@ -277,6 +279,7 @@ impl Given {
             false => (0, 0),
         };
         memory.scratch = self.length(Lent::Scratch, SCRATCH);
+        memory.index = self.length(Lent::Index, INDEX);
         memory.out_typing = self.length(Lent::OutTyping, 3 * memory.expr_count);
         memory.out_measure = self.length(Lent::OutMeasure, components);
         memory.out_choices = self.length(Lent::OutChoices, 2 * disjunctions);

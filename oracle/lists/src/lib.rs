@@ -5,6 +5,7 @@ pub mod answer;
 pub mod checks;
 pub mod generate;
 pub mod given;
+pub mod index;
 pub mod memory;
 pub mod question;
 pub mod read;

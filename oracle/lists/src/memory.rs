@@ -1,5 +1,7 @@
 //! The memory form of a list, as the port is handed it: slices of 16-bit words with counts.
 
+use crate::verdict::Shape;
+
 /// Ceilings on what may be given.
 pub const MAX_SORTS: usize = 1024;
 pub const MAX_ENTRIES: usize = 4096;
@@ -27,6 +29,7 @@ pub const NODE_ENTRIES_AT: usize = MAX_NODES * ROW;
 pub const SORT_STORAGE: usize = ENTRIES_AT + MAX_ENTRIES;
 pub const NODE_STORAGE: usize = NODE_ENTRIES_AT + MAX_NODE_ENTRIES;
 pub const SCRATCH: usize = 4096;
+pub const INDEX: usize = 2048;
 
 /// The binding of a free variable.
 pub const FREE: u16 = 65_535;
@@ -138,14 +141,19 @@ pub struct Ceilings {
     pub node_entries: usize,
 }
 
+impl Ceilings {
+    pub const NONE: Ceilings =
+        Ceilings { sorts: usize::MAX, entries: usize::MAX, nodes: usize::MAX, node_entries: usize::MAX };
+}
+
 impl Default for Ceilings {
     fn default() -> Self {
         Ceilings { sorts: MAX_SORTS, entries: MAX_ENTRIES, nodes: MAX_NODES, node_entries: MAX_NODE_ENTRIES }
     }
 }
 
-/// All that a call is lent. Slices have the lent lengths; counts stand beside them. Of outputs and
-/// scratch only the lengths matter here.
+/// All that a call is lent. Slices have the lent lengths; counts stand beside them. Of outputs,
+/// scratch and index only the lengths matter here.
 #[derive(Clone, Debug, Default)]
 pub struct Memory {
     pub sorts: Vec<u16>,
@@ -168,6 +176,7 @@ pub struct Memory {
     pub source_count: usize,
     pub default: u16,
     pub scratch: usize,
+    pub index: usize,
     pub out_typing: usize,
     pub out_measure: usize,
     pub out_choices: usize,
@@ -176,13 +185,21 @@ pub struct Memory {
 }
 
 impl Memory {
-    /// A list of sorts alone: rows, and entries from their fixed place on.
+    /// A list of sorts alone: rows, and entries from their fixed place on. An index is lent beside it.
     pub fn of_sorts(sorts: Vec<u16>, sort_count: usize, entry_count: usize) -> Memory {
-        Memory { sorts, sort_count, entry_count, ..Memory::default() }
+        Memory { sorts, sort_count, entry_count, index: INDEX, ..Memory::default() }
     }
 
     pub fn sort(&self, number: usize) -> Row {
         Row::of(&self.sorts[number * ROW..][..ROW])
+    }
+
+    /// The sort of a row, without the words that its kind does not use.
+    pub fn shape(&self, number: usize) -> Shape {
+        let row = self.sort(number);
+        let part = if row.kind <= kind::REAL { 0 } else { row.part };
+        let arguments = if row.kind == kind::FUNCTION { self.sort_arguments(row).to_vec() } else { Vec::new() };
+        Shape { kind: row.kind, part, arguments }
     }
 
     pub fn node(&self, number: usize) -> Row {

@@ -2,6 +2,7 @@
 //! in unused words, guard words, times of calls, options, and a watch for calls that do not end.
 
 pub mod clock;
+pub mod crowd;
 pub mod draft;
 pub mod guard;
 pub mod junk;

@@ -44,7 +44,7 @@ pub fn form(keyword: &str) -> &'static str {
             "count WHAT N, where WHAT is sorts, entries, nodes, node-entries, vars, exprs, names, constraints, overloads or sources"
         }
         "lend" => {
-            "lend WHAT N, where WHAT is sorts, nodes, bindings, exprs, names, constraints, overloads, sources, scratch, out-typing, out-measure or out-choices"
+            "lend WHAT N, where WHAT is sorts, nodes, bindings, exprs, names, constraints, overloads, sources, scratch, index, out-typing, out-measure or out-choices"
         }
         "ceilings" => "no ceilings line: this program has the fixed ceilings",
         _ => "a word that begins a line of the format",
@@ -69,7 +69,7 @@ pub fn of_code(code: u16) -> &'static str {
         10 => "two disjunctions, or two base names, are for one expression",
         11 => "a join has no sources, or there are more than 256 components",
         12 => "the default sort is not in the list",
-        14 => "an output, the scratch, or the storage of sorts or nodes is too short",
+        14 => "an output, the scratch, the index, or the storage of sorts or nodes is too short",
         15 => "the search has no room for a new sort",
         16 => "the search has no room for a new node",
         17 => "no typing found",

@@ -1,4 +1,4 @@
-//! A call of the solver: the lists in lent words, with what scratch and outputs hold at entry.
+//! A call of the solver: the lists in lent words, with what scratch, index and outputs hold at entry.
 
 use common::guard::GUARD;
 use common::guard::between_guards;
@@ -13,11 +13,12 @@ pub use lists::given::Lent as Slice;
 /// How many slices a call is lent.
 pub const SLICES: usize = Slice::ALL.len();
 
-/// What the slices of a call hold. Of scratch and outputs `memory` has the lengths.
+/// What the slices of a call hold. Of scratch, index and outputs `memory` has the lengths.
 #[derive(Clone, Debug, Default)]
 pub struct Call {
     pub memory: Memory,
     pub scratch: Vec<u16>,
+    pub index: Vec<u16>,
     pub typing: Vec<u16>,
     pub measure: Vec<u16>,
     pub choices: Vec<u16>,
@@ -36,6 +37,7 @@ impl Call {
             Slice::Overloads => &memory.overloads,
             Slice::Sources => &memory.sources,
             Slice::Scratch => &self.scratch,
+            Slice::Index => &self.index,
             Slice::OutTyping => &self.typing,
             Slice::OutMeasure => &self.measure,
             Slice::OutChoices => &self.choices,
@@ -54,6 +56,7 @@ impl Call {
             Slice::Overloads => &mut memory.overloads,
             Slice::Sources => &mut memory.sources,
             Slice::Scratch => &mut self.scratch,
+            Slice::Index => &mut self.index,
             Slice::OutTyping => &mut self.typing,
             Slice::OutMeasure => &mut self.measure,
             Slice::OutChoices => &mut self.choices,
@@ -70,9 +73,10 @@ impl Call {
         self.told();
     }
 
-    /// Tells `memory` the lengths of scratch and outputs.
+    /// Tells `memory` the lengths of scratch, index and outputs.
     pub fn told(&mut self) {
         self.memory.scratch = self.scratch.len();
+        self.memory.index = self.index.len();
         self.memory.out_typing = self.typing.len();
         self.memory.out_measure = self.measure.len();
         self.memory.out_choices = self.choices.len();

@@ -1,5 +1,7 @@
 //! One list put to the port and to the excerpt.
 
+use lists::memory::Memory;
+
 use crate::call::Call;
 use crate::call::Lent;
 use crate::cases::Case;
@@ -15,13 +17,26 @@ pub struct Desk {
 }
 
 impl Desk {
+    /// Lends the call of a case, and those that follow it the same memory, as it was left. `each` is told what is expected of each.
+    pub fn compare(&mut self, case: &mut Case, mut each: impl FnMut(&Memory, &Expected)) -> Result<(), String> {
+        self.lent.iter_mut().for_each(|lent| lent.fill(&case.call));
+        let expected = self.compare_lent(case)?;
+        each(&case.call.memory, &expected);
+        for (number, constraints) in std::mem::take(&mut case.again).into_iter().enumerate() {
+            case.call.memory.constraint_count = constraints;
+            let asked = self.compare_lent(case);
+            let expected = asked.map_err(|message| format!("call {} over the same memory: {message}", number + 2))?;
+            each(&case.call.memory, &expected);
+        }
+        Ok(())
+    }
+
     /// Asks the judges and both entries of the library, and compares the answers and all of memory at exit. The case is
     /// left as each call must leave it.
-    pub fn compare(&mut self, case: &mut Case) -> Result<Expected, String> {
+    fn compare_lent(&mut self, case: &mut Case) -> Result<Expected, String> {
         let expected = judged(case)?;
         let mut answers = [0; Entry::ALL.len()];
         for ((lent, answer), (entry, _)) in self.lent.iter_mut().zip(&mut answers).zip(Entry::ALL) {
-            lent.fill(&case.call);
             *answer = Port::Library(entry).ask(lent, &case.call.memory);
         }
         expected.leave(&mut case.call);

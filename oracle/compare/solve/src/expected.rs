@@ -75,6 +75,7 @@ impl Expected {
         }
         zero_past(&mut memory.nodes, memory.node_count, NODE_ENTRIES_AT, memory.node_entry_count);
         call.scratch.fill(0);
+        call.index.fill(0);
         if let Outcome::Searched { verdict: Verdict::Typing { sorts, names, measure }, .. } = &self.outcome {
             for ((row, sort), (kind, name)) in call.typing.chunks_exact_mut(3).zip(sorts).zip(names) {
                 row.copy_from_slice(&[*sort, *kind, *name]);

@@ -115,6 +115,21 @@ pub enum Fault {
     JoinLeftOpen,
     BindingsFreed,
 
+    // The index.
+    IndexLeft,
+    IndexLeftAfter17,
+    IndexLeftAfterRoom,
+    IndexOneWordFew,
+    IndexToCeiling,
+    IndexClearedByRefusal,
+    IndexNotClearedFirst,
+    IndexLastGivenMissing,
+    IndexNewMissing,
+    IndexClashOverwrites,
+    IndexLooksOnce,
+    IndexFirstTaken,
+    IndexNotRound,
+
     // The checks.
     NotMade(u16),
     /// The earlier of two neighbouring checks comes after the later one.
@@ -145,7 +160,7 @@ pub enum Fault {
 /// The codes of the checks in their order.
 pub const CODES: [u16; 13] = [1, 2, 3, 4, 5, 6, 7, 8, 9, 10, 11, 12, 14];
 
-const SINGLE: [(Fault, &str); 92] = [
+const SINGLE: [(Fault, &str); 105] = [
     (Fault::AlwaysNoTyping, "17 for everything"),
     (Fault::FirstConstraintOnly, "only the first constraint is obeyed"),
     (Fault::DisjunctionStops, "a disjunction stops at its first success"),
@@ -237,6 +252,19 @@ const SINGLE: [(Fault, &str); 92] = [
     (Fault::BindingLeft, "one binding is left at exit"),
     (Fault::JoinLeftOpen, "bindings of a Join's first way are left"),
     (Fault::BindingsFreed, "given bindings are gone at exit"),
+    (Fault::IndexLeft, "the index is not cleared"),
+    (Fault::IndexLeftAfter17, "17 does not clear the index"),
+    (Fault::IndexLeftAfterRoom, "15 and 16 do not clear the index"),
+    (Fault::IndexOneWordFew, "one word of the index too few is cleared"),
+    (Fault::IndexToCeiling, "2,048 words of a longer index are cleared"),
+    (Fault::IndexClearedByRefusal, "a refusal clears the index"),
+    (Fault::IndexNotClearedFirst, "what the index holds at entry is taken for sorts"),
+    (Fault::IndexLastGivenMissing, "the last given sort is not in the index"),
+    (Fault::IndexNewMissing, "a new sort is not put into the index"),
+    (Fault::IndexClashOverwrites, "a sort takes the slot of another one"),
+    (Fault::IndexLooksOnce, "a lookup looks at one slot only"),
+    (Fault::IndexFirstTaken, "the sort of the first slot is taken as it is"),
+    (Fault::IndexNotRound, "a walk ends at the last slot"),
     (Fault::ComponentCeiling, "256 components are refused"),
 ];
 

@@ -10,7 +10,7 @@ use crate::port::Port;
 /// Heavy lists are asked in smaller numbers.
 fn share(class: Class, count: u64) -> u64 {
     match class {
-        Class::Full | Class::Large | Class::Deep => count / 30,
+        Class::Full | Class::Large | Class::Deep | Class::Clash | Class::Again => count / 30,
         _ => count,
     }
 }

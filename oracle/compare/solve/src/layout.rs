@@ -31,6 +31,7 @@ fn more(rng: &mut Rng, slice: Slice, more: More) -> usize {
             true => rng.pick(&[808, 4_096, 8_192]),
             false => rng.pick(&[1, 2, 4, 5, 64]),
         },
+        Slice::Index => rng.pick(&[1, 1, 2, 64, 2_048]),
         _ => rng.pick(&[1, 2, 3, 4, 5, 6, 30]),
     }
 }
@@ -96,6 +97,7 @@ fn words_needed(list: &Given, slice: Slice) -> usize {
         Slice::Overloads => OVERLOAD * list.overloads.len(),
         Slice::Sources => list.sources.len(),
         Slice::Scratch => SCRATCH,
+        Slice::Index => INDEX,
         Slice::OutTyping => 3 * list.exprs.len(),
         Slice::OutMeasure => components(list).min(2 * MAX_COMPONENTS),
         Slice::OutChoices => 2 * disjunctions(list),

@@ -1,9 +1,11 @@
-//! The search, written a second time, over the memory form: a trail of bindings, interning by a
-//! scan, nodes given back after a widening. A witness beside the excerpt, and what the stand-in and its wrong
+//! The search, written a second time, over the memory form: a trail of bindings, interning by an
+//! index, nodes given back after a widening. A witness beside the excerpt, and what the stand-in and its wrong
 //! variants run.
 
 use std::cmp::Ordering;
+use std::iter;
 
+use lists::index;
 use lists::memory::*;
 use lists::verdict::Tally;
 
@@ -97,6 +99,7 @@ pub struct Search<'a> {
     pub sorts: Storage<'a>,
     pub nodes: Storage<'a>,
     pub bindings: &'a mut [u16],
+    index: &'a mut [u16],
     trail: Vec<u16>,
     measure: Vec<u16>,
     choices: Vec<(u16, u16)>,
@@ -116,6 +119,7 @@ impl<'a> Search<'a> {
         sorts: &'a mut [u16],
         nodes: &'a mut [u16],
         bindings: &'a mut [u16],
+        index: &'a mut [u16],
     ) -> Search<'a> {
         let less = |of: Fault| usize::from(fault == Some(of));
         let ceilings = memory.ceilings;
@@ -123,7 +127,7 @@ impl<'a> Search<'a> {
             Some(Fault::EntryRoomOfSlice) => sorts.len() - ENTRIES_AT,
             _ => ceilings.entries - less(Fault::EntryRoom),
         };
-        Search {
+        let mut search = Search {
             fault,
             memory,
             sorts: Storage {
@@ -143,6 +147,7 @@ impl<'a> Search<'a> {
                 most_entries: ceilings.node_entries - less(Fault::NodeEntryRoom),
             },
             bindings,
+            index,
             trail: Vec::new(),
             measure: Vec::new(),
             choices: Vec::new(),
@@ -151,7 +156,9 @@ impl<'a> Search<'a> {
             first_binding: None,
             steps: 0,
             depth: 0,
-        }
+        };
+        search.fill_index();
+        search
     }
 
     /// The whole search; whether a leaf was found is told by `best`.
@@ -687,12 +694,61 @@ impl<'a> Search<'a> {
     // Sorts.
 
     fn intern(&mut self, kind: u16, part: u16, arguments: &[u16]) -> Tried<u16> {
-        let there = (0..self.sorts.rows as u16).find(|&number| self.sorts.says(number, kind, part, arguments));
-        if let Some(number) = there {
+        if let Some(number) = self.look(kind, part, arguments) {
             return Ok(number);
         }
         let leave_unused = self.has(Fault::UnusedWordsLeft);
-        self.sorts.push(kind, part, arguments, leave_unused).ok_or(Stop::Sorts)
+        let number = self.sorts.push(kind, part, arguments, leave_unused).ok_or(Stop::Sorts)?;
+        if !self.has(Fault::IndexNewMissing) {
+            self.enter(number, index::place(kind, part, arguments));
+        }
+        Ok(number)
+    }
+
+    // The index: at a slot a sort's number plus one, or 0.
+
+    fn fill_index(&mut self) {
+        let memory = self.memory;
+        let words = if self.has(Fault::IndexToCeiling) { INDEX } else { self.index.len() };
+        if !self.has(Fault::IndexNotClearedFirst) {
+            self.index[..words].fill(0);
+        }
+        let missing = usize::from(self.has(Fault::IndexLastGivenMissing));
+        for number in 0..memory.sort_count - missing {
+            self.enter(number as u16, index::place_of(&memory.shape(number)));
+        }
+    }
+
+    /// The slot after one; none where a wrong walk ends.
+    fn next_slot(&self, slot: usize) -> Option<usize> {
+        match index::next(slot) {
+            0 if self.has(Fault::IndexNotRound) => None,
+            next => Some(next),
+        }
+    }
+
+    /// Slots from a place on.
+    fn walk(&self, place: usize, most: usize) -> impl Iterator<Item = usize> {
+        iter::successors(Some(place), |&slot| self.next_slot(slot)).take(most)
+    }
+
+    /// Puts a sort into the first empty slot from a place on.
+    fn enter(&mut self, number: u16, place: usize) {
+        let overwrites = self.has(Fault::IndexClashOverwrites);
+        let free = self.walk(place, INDEX).find(|&slot| self.index[slot] == 0 || overwrites);
+        if let Some(slot) = free {
+            self.index[slot] = number + 1;
+        }
+    }
+
+    /// The sort that is found from its place on, up to the first empty slot.
+    fn look(&self, kind: u16, part: u16, arguments: &[u16]) -> Option<u16> {
+        let place = index::place(kind, part, arguments);
+        let most = if self.has(Fault::IndexLooksOnce) { 1 } else { INDEX };
+        let words = self.walk(place, most).map(|slot| self.index[slot]).take_while(|&word| word > 0);
+        let sorts = words.map(|word| word - 1).filter(|&number| usize::from(number) < self.sorts.rows);
+        let taken = |number: u16| self.has(Fault::IndexFirstTaken) || self.sorts.says(number, kind, part, arguments);
+        sorts.into_iter().find(|&number| taken(number))
     }
 
     /// The join (up) or the meet of two sorts.
@@ -803,8 +859,8 @@ mod tests {
     /// The search on a copy of a list, and the words of its sorts at the end.
     fn searched<T>(memory: &Memory, read: impl FnOnce(Result<(), Stop>, &mut Search) -> T) -> T {
         let (mut sorts, mut nodes) = (memory.sorts.clone(), memory.nodes.clone());
-        let mut bindings = memory.bindings.clone();
-        let mut search = Search::new(None, memory, &mut sorts, &mut nodes, &mut bindings);
+        let (mut bindings, mut index) = (memory.bindings.clone(), [0; INDEX]);
+        let mut search = Search::new(None, memory, &mut sorts, &mut nodes, &mut bindings, &mut index);
         let ended = search.run();
         read(ended, &mut search)
     }
@@ -831,7 +887,8 @@ mod tests {
     fn makes_what_the_excerpt_makes() {
         for (class, _) in Class::ALL {
             let cases = Cases::new(class, 5);
-            let count = if matches!(class, Class::Full | Class::Large | Class::Deep) { 50 } else { 2_000 };
+            let heavy = matches!(class, Class::Full | Class::Large | Class::Deep | Class::Clash | Class::Again);
+            let count = if heavy { 50 } else { 2_000 };
             for index in 0..count {
                 same_tally(&cases.case(index).expect("there are so many").call);
             }

@@ -20,6 +20,7 @@ struct Written<'a> {
     nodes: &'a mut [u16],
     bindings: &'a mut [u16],
     scratch: &'a mut [u16],
+    index: &'a mut [u16],
     typing: &'a mut [u16],
     measure: &'a mut [u16],
     choices: &'a mut [u16],
@@ -27,12 +28,13 @@ struct Written<'a> {
 
 /// Asks the stand-in, or the variant that has a fault. The lists are read from `memory`, which holds the same words.
 pub fn ask(fault: Option<Fault>, lent: &mut Lent, memory: &Memory) -> u64 {
-    let [sorts, nodes, bindings, _, _, _, _, _, scratch, typing, measure, choices] = &mut lent.slices;
+    let [sorts, nodes, bindings, _, _, _, _, _, scratch, index, typing, measure, choices] = &mut lent.slices;
     let mut written = Written {
         sorts: between_guards(sorts),
         nodes: between_guards(nodes),
         bindings: between_guards(bindings),
         scratch: between_guards(scratch),
+        index: between_guards(index),
         typing: between_guards(typing),
         measure: between_guards(measure),
         choices: between_guards(choices),
@@ -76,13 +78,19 @@ fn change_last(words: &mut [u16]) {
 const ENDLESS: u64 = u64::MAX;
 
 fn answer(fault: Option<Fault>, memory: &Memory, written: &mut Written) -> u64 {
+    let has = |other: Fault| fault == Some(other);
     match refusal(fault, memory) {
-        Refusal::Code(code) => return code.into(),
+        Refusal::Code(code) => {
+            if has(Fault::IndexClearedByRefusal) {
+                written.index.fill(0);
+            }
+            return code.into();
+        }
         Refusal::Taken => return packed(17, memory.sort_count, memory.entry_count),
         Refusal::Accepted => {}
     }
-    let has = |other: Fault| fault == Some(other);
-    let mut search = Search::new(fault, memory, written.sorts, written.nodes, written.bindings);
+    let last_of_index = written.index[written.index.len() - 1];
+    let mut search = Search::new(fault, memory, written.sorts, written.nodes, written.bindings, written.index);
     let stopped = search.run().err();
     let (rows, entries) = (search.sorts.rows, search.sorts.entries);
     let nodes_made = search.tally.nodes_made > 0;
@@ -110,6 +118,7 @@ fn answer(fault: Option<Fault>, memory: &Memory, written: &mut Written) -> u64 {
     leave_sorts(fault, code, memory, written, rows, entries);
     leave_nodes(fault, code, memory, written, nodes_made);
     leave_scratch(fault, code, written);
+    leave_index(fault, code, written, last_of_index);
     let entries = if has(Fault::EntriesNotCounted) { memory.entry_count } else { entries };
     match (code, best) {
         (0, Some(best)) => {
@@ -191,6 +200,21 @@ fn leave_scratch(fault: Option<Fault>, code: u16, written: &mut Written) {
         _ => scratch.len(),
     };
     scratch[..words].fill(0);
+}
+
+fn leave_index(fault: Option<Fault>, code: u16, written: &mut Written, last: u16) {
+    let index = &mut written.index[..];
+    let words = match fault {
+        Some(Fault::IndexLeft) => 0,
+        Some(Fault::IndexLeftAfter17) if code == 17 => 0,
+        Some(Fault::IndexLeftAfterRoom) if matches!(code, 15 | 16) => 0,
+        Some(Fault::IndexToCeiling) => INDEX,
+        _ => index.len(),
+    };
+    index[..words].fill(0);
+    if fault == Some(Fault::IndexOneWordFew) {
+        index[index.len() - 1] = last;
+    }
 }
 
 /// Writes the outputs of a typing.
@@ -315,6 +339,7 @@ fn one_longer(memory: &Memory, slice: Slice) -> Memory {
         Slice::Overloads => longer.overloads.push(0),
         Slice::Sources => longer.sources.push(0),
         Slice::Scratch => longer.scratch += 1,
+        Slice::Index => longer.index += 1,
         Slice::OutTyping => longer.out_typing += 1,
         Slice::OutMeasure => longer.out_measure += 1,
         Slice::OutChoices => longer.out_choices += 1,

@@ -87,7 +87,8 @@ mod tests {
     fn the_text_of_a_list_says_it() {
         for (class, _) in Class::ALL.into_iter().filter(|(class, _)| !matches!(class, Class::Damaged | Class::Words)) {
             let cases = Cases::new(class, 6);
-            for index in 0..if matches!(class, Class::Full | Class::Large | Class::Deep) { 20 } else { 300 } {
+            let heavy = matches!(class, Class::Full | Class::Large | Class::Deep | Class::Clash | Class::Again);
+            for index in 0..if heavy { 20 } else { 300 } {
                 let call = cases.case(index).expect("there are so many").call;
                 let expected = Expected::of(&call.memory).expect("the judges agree");
                 if matches!(expected.code(), 1 | 14) {

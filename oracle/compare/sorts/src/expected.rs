@@ -13,6 +13,8 @@ use merc_counting::ledger;
 use merc_counting::ledger::OutOfRoom;
 use merc_plain::Lattice;
 
+use crate::call::Call;
+
 #[derive(Debug, Eq, PartialEq)]
 pub enum Expected {
     /// The first failing check.
@@ -90,18 +92,18 @@ impl Expected {
         }
     }
 
-    /// The lent words at exit.
-    pub fn exit(&self, memory: &Memory) -> Vec<u16> {
-        let mut words = memory.sorts.clone();
+    /// Turns what a call is lent into what it leaves.
+    pub fn leave(&self, call: &mut Call) {
+        let memory = &mut call.memory;
         match self {
-            Expected::Refused(_) | Expected::Read(_) => {}
+            Expected::Refused(_) | Expected::Read(_) => return,
             Expected::NoRoom => {
-                words[ROW * memory.sort_count..ENTRIES_AT].fill(0);
-                words[ENTRIES_AT + memory.entry_count..].fill(0);
+                memory.sorts[ROW * memory.sort_count..ENTRIES_AT].fill(0);
+                memory.sorts[ENTRIES_AT + memory.entry_count..].fill(0);
             }
-            Expected::Bound { sorts, .. } => append(&mut words, memory, sorts),
+            Expected::Bound { sorts, .. } => append(memory, sorts),
         }
-        words
+        call.index.fill(0);
     }
 
     /// The answer in a few words, for counting.
@@ -113,6 +115,11 @@ impl Expected {
             Expected::Bound { sort: None, .. } => "bound none".to_string(),
             Expected::Bound { sort: Some(_), .. } => "bound some".to_string(),
         }
+    }
+
+    /// Whether it is what a join or meet comes to that passes its checks.
+    pub fn makes(&self) -> bool {
+        matches!(self, Expected::NoRoom | Expected::Bound { .. })
     }
 
     /// How many sorts a join or meet stored.
@@ -151,14 +158,14 @@ fn reply_label(reply: &Reply) -> &'static str {
 }
 
 /// Writes the sorts past those of the list as rows, each new function with a run of its own.
-fn append(words: &mut [u16], memory: &Memory, sorts: &[Shape]) {
+fn append(memory: &mut Memory, sorts: &[Shape]) {
     let mut entries = memory.entry_count;
     for (number, sort) in sorts.iter().enumerate().skip(memory.sort_count) {
         let count = sort.arguments.len();
         let start = if sort.kind == kind::FUNCTION { entries } else { 0 };
         let row = Row { kind: sort.kind, part: sort.part, start: start as u16, count: count as u16 };
-        words[ROW * number..][..ROW].copy_from_slice(&row.words());
-        words[ENTRIES_AT + entries..][..count].copy_from_slice(&sort.arguments);
+        memory.sorts[ROW * number..][..ROW].copy_from_slice(&row.words());
+        memory.sorts[ENTRIES_AT + entries..][..count].copy_from_slice(&sort.arguments);
         entries += count;
     }
 }

@@ -406,7 +406,12 @@ impl Damage<'_> {
             Entry::Unify => 2,
             Entry::Lattice => 1,
         };
-        let needed: Vec<(Lent, usize)> = slices[..reached].iter().copied().filter(|&(_, words)| words > 0).collect();
+        let mut needed: Vec<(Lent, usize)> =
+            slices[..reached].iter().copied().filter(|&(_, words)| words > 0).collect();
+        // Of a search the index is not cut short here: lists on record are among these.
+        if matches!(self.question, Question::Join(..) | Question::Meet(..)) {
+            needed.push((Lent::Index, INDEX));
+        }
         let (slice, words) = self.rng.pick(&needed);
         self.list.set_lend(slice, (words - 1) as u16);
     }

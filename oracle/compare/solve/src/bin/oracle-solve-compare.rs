@@ -12,6 +12,7 @@ use solve::cases::Cases;
 use solve::cases::Class;
 use solve::compare::Desk;
 use solve::counts::Counts;
+use solve::expected::Outcome;
 use solve::port::LIBRARY;
 use solve::text::call_text;
 
@@ -32,13 +33,17 @@ fn run(options: &Options) -> Result<(), Failure> {
     for index in from..from.saturating_add(count) {
         watch.at(index);
         let Some(mut case) = cases.case(index) else { break };
-        match desk.compare(&mut case) {
-            Ok(expected) => counts.add(&case.call.memory, &expected),
-            Err(message) => {
-                let list = cases.case(index).map(|case| call_text(&case.call)).unwrap_or_default();
-                let what = format!("class {} seed {seed} number {index}", class.name());
-                return Err(Failure::Run(format!("{what}: {message}\n{list}? solve")));
-            }
+        counts.lists += 1;
+        let mut after_15 = false;
+        let compared = desk.compare(&mut case, |memory, expected| {
+            counts.after_15 += u64::from(after_15);
+            after_15 |= expected.outcome == Outcome::NoRoom(15);
+            counts.add(memory, expected);
+        });
+        if let Err(message) = compared {
+            let list = cases.case(index).map(|case| call_text(&case.call)).unwrap_or_default();
+            let what = format!("class {} seed {seed} number {index}", class.name());
+            return Err(Failure::Run(format!("{what}: {message}\n{list}? solve")));
         }
     }
     let seconds = start.elapsed().as_secs_f64();

@@ -16,9 +16,17 @@ use solve::expected::Outcome;
 /// At most so many words on a line.
 const WORDS: usize = 16;
 
+/// The slice of the index, and how many words it has.
+const INDEX_SLICE: usize = 12;
+const INDEX_WORDS: usize = 2048;
+
 /// Random lists of more bytes are left out, but for so many that run out of room. Written ones may have any length.
 const BYTES: usize = 900;
 const FULL: usize = 6;
+
+/// Words in the index at entry, as if sorts stood there. A refusal leaves them, and each other answer leaves zeros. Each
+/// list has them at the next place.
+const OTHERS: [u16; WORDS] = [1, 2, 3, 4, 5, 6, 7, 8, 9, 10, 11, 12, 13, 14, 15, 65_535];
 
 fn main() -> ExitCode {
     options::main("oracle-solve-words", &[("seed", "1")], run)
@@ -38,15 +46,21 @@ fn run(options: &Options) -> Result<(), Failure> {
             continue;
         }
         let room_ended = matches!(expected.code(), 15 | 16);
-        let lines = format!("# {}\n{}{}", list.title, given(&memory), answered(memory, &expected));
-        if number >= written && lines.len() > BYTES {
+        let asked = format!("# {}\n{}", list.title, given(&memory));
+        let answered = answered(memory, &expected);
+        if number >= written && asked.len() + answered.len() > BYTES {
             if !room_ended || full == FULL {
                 continue;
             }
             full += 1;
         }
+        let at = WORDS * count % INDEX_WORDS;
+        let left = if let Outcome::Refused(_) = expected.outcome { OTHERS } else { [0; WORDS] };
         count += 1;
-        text += &lines;
+        text += &asked;
+        text += &lines('S', INDEX_SLICE, at, &OTHERS, false);
+        text += &answered;
+        text += &lines('X', INDEX_SLICE, at, &left, false);
     }
     print!("{}{text}", header(seed, count));
     Ok(())
@@ -59,6 +73,7 @@ fn header(seed: u64, count: usize) -> String {
 # They are those of lists/recorded.txt, but for lists that are lent storage of other lengths than their ceilings, and most long
 # ones of the random ones.
 # The answers are those of the excerpt of merc; refusals are those of the model of the checks (lists/src/checks.rs).
+# Each is lent other words in the index, which a refusal leaves and each other answer clears.
 "
     )
 }
@@ -155,6 +170,7 @@ fn answered(memory: Memory, expected: &Expected) -> String {
         measure: vec![0; (packed >> 40 & 0xfff) as usize],
         choices: vec![0; 2 * (packed >> 52) as usize],
         scratch: vec![0; SCRATCH],
+        index: vec![0; INDEX],
         memory,
     };
     expected.leave(&mut call);

@@ -33,7 +33,7 @@ pub fn case(rng: &mut Rng, junk: &Junk, mut list: Given, index: u64) -> Case {
     }
     let planted = faults.last().copied();
     named(&call.memory, planted.expect("there is a fault"));
-    Case { call, planted }
+    Case { planted, ..Case::new(call) }
 }
 
 fn named(memory: &Memory, code: u16) {
@@ -86,7 +86,7 @@ fn above(rng: &mut Rng, list: Counted, rows: usize, length: usize) -> usize {
     rng.pick(&counts).max(ceiling + 1)
 }
 
-/// Storage, scratch or an output shorter than it has to be, though long enough for what is given.
+/// Storage, scratch, index or an output shorter than it has to be, though long enough for what is given.
 fn too_short(rng: &mut Rng, call: &mut Call) {
     let memory = &call.memory;
     let storage = |rows: usize, entries_at: usize, entries: usize| match entries {
@@ -97,6 +97,7 @@ fn too_short(rng: &mut Rng, call: &mut Call) {
         (Slice::Sorts, SORT_STORAGE, storage(memory.sort_count, ENTRIES_AT, memory.entry_count)),
         (Slice::Nodes, NODE_STORAGE, storage(memory.node_count, NODE_ENTRIES_AT, memory.node_entry_count)),
         (Slice::Scratch, SCRATCH, 0),
+        (Slice::Index, INDEX, 0),
         (Slice::OutTyping, 3 * memory.expr_count, 0),
         (Slice::OutMeasure, components(memory), 0),
         (Slice::OutChoices, 2 * memory.disjunctions(), 0),

@@ -18,10 +18,7 @@ struct Needs {
 
 impl Needs {
     fn of(list: &Given) -> Needs {
-        // No ceilings.
-        let mut memory = list.memory();
-        memory.ceilings =
-            Ceilings { sorts: usize::MAX, entries: usize::MAX, nodes: usize::MAX, node_entries: usize::MAX };
+        let memory = Memory { ceilings: Ceilings::NONE, ..list.memory() };
         let heard = merc_counting::ask(&memory, Question::Solve);
         let tally = ledger::end();
         Needs {

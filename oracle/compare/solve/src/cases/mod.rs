@@ -1,5 +1,7 @@
 //! The cases: lists to solve, in lent words. Case N of a class and seed is always the same.
 
+mod again;
+mod clash;
 mod damage;
 mod deep;
 mod disguise;
@@ -58,10 +60,14 @@ pub enum Class {
     Large,
     /// Nesting up to 1,500 deep.
     Deep,
+    /// Up to 1,024 sorts whose places in the index are that of a sort that is looked for, or before it.
+    Clash,
+    /// Calls one after another over the same memory, many of which end with 15.
+    Again,
 }
 
 impl Class {
-    pub const ALL: [(Class, &'static str); 13] = [
+    pub const ALL: [(Class, &'static str); 15] = [
         (Class::Small, "small"),
         (Class::Few, "few"),
         (Class::Solve, "solve"),
@@ -75,6 +81,8 @@ impl Class {
         (Class::Full, "full"),
         (Class::Large, "large"),
         (Class::Deep, "deep"),
+        (Class::Clash, "clash"),
+        (Class::Again, "again"),
     ];
 
     pub fn name(self) -> &'static str {
@@ -86,6 +94,14 @@ impl Class {
 pub struct Case {
     pub call: Call,
     pub planted: Option<u16>,
+    /// Calls that follow over the same memory: how many of the constraints each is told.
+    pub again: Vec<usize>,
+}
+
+impl Case {
+    pub fn new(call: Call) -> Case {
+        Case { call, planted: None, again: Vec::new() }
+    }
 }
 
 /// How many lists of one or two constraints there are, and a step that goes through them in another order, so that
@@ -113,7 +129,8 @@ impl Cases {
             Class::Short => short::case(rng, &self.junk, &list),
             Class::Damaged => damage::case(rng, &self.junk, list, index),
             Class::Words => words::case(rng, &self.junk, &list),
-            _ => Case { call: laid_out(rng, &self.junk, &list, More::Any), planted: None },
+            Class::Again => again::case(rng, &self.junk, &list),
+            _ => Case::new(laid_out(rng, &self.junk, &list, More::Any)),
         })
     }
 
@@ -132,9 +149,10 @@ impl Cases {
             Class::Dropped => disguised(rng, dropped::dropped),
             Class::Short | Class::Damaged | Class::Words => self.any(rng, index),
             Class::Edge => full::edge(rng, |rng, turn| self.any(rng, index + (turn << 32))),
-            Class::Full => full::sorts_edge(rng, |rng, turn| self.any(rng, index + (turn << 32))),
+            Class::Full | Class::Again => full::sorts_edge(rng, |rng, turn| self.any(rng, index + (turn << 32))),
             Class::Large => long(rng, large::large),
             Class::Deep => long(rng, deep::deep),
+            Class::Clash => clash::clash(rng, |rng, turn| self.any(rng, index + (turn << 32))),
         })
     }
 

@@ -141,6 +141,7 @@ mod tests {
         let memory = list.memory();
         let mut call = Call { memory, ..Call::default() };
         call.scratch = vec![7; call.memory.scratch];
+        call.index = vec![7; call.memory.index];
         call.typing = vec![7; call.memory.out_typing];
         call.measure = vec![7; call.memory.out_measure];
         call.choices = vec![7; call.memory.out_choices];

@@ -18,5 +18,5 @@ pub fn case(rng: &mut Rng, junk: &Junk, list: &Given) -> Case {
         let length = call.length(slice).saturating_sub(1);
         call.lend(slice, length, 0);
     }
-    Case { call, planted: None }
+    Case::new(call)
 }

@@ -18,7 +18,7 @@ pub fn case(rng: &mut Rng, junk: &Junk, list: &Given) -> Case {
     for _ in 0..rng.between(1, 3) {
         change(rng, &mut call);
     }
-    Case { call, planted: None }
+    Case::new(call)
 }
 
 fn change(rng: &mut Rng, call: &mut Call) {

@@ -8,13 +8,16 @@ use std::time::Instant;
 use common::options;
 use common::options::Failure;
 use common::options::Options;
+use lists::index::Walks;
 use lists::memory::ENTRIES_AT;
+use lists::memory::INDEX;
+use lists::memory::MAX_SORTS;
 use lists::memory::Memory;
 use lists::memory::ROW;
 use sorts::cases::Case;
 use sorts::cases::Cases;
 use sorts::cases::Class;
-use sorts::compare::compare;
+use sorts::compare::compare_all;
 use sorts::expected::Expected;
 use sorts::port;
 
@@ -31,6 +34,14 @@ struct Counts {
     made: u64,
     made_with_none: u64,
     sorts: u64,
+    /// Calls that passed their checks over an index longer than it has to be; calls after one that ended with 15, in the same memory.
+    longer: u64,
+    after_15: u64,
+    /// Calls of join and meet with 1,024 sorts at their end.
+    full: u64,
+    /// Of joins and meets that were answered: the most slots looked at to enter a sort, and how many went round the end.
+    longest_walk: usize,
+    round: u64,
 }
 
 fn run(options: &Options) -> Result<(), Failure> {
@@ -63,21 +74,18 @@ fn class(name: &str) -> Result<Class, Failure> {
 
 fn ask_all(case: &Case, counts: &mut Counts) -> Result<(), String> {
     counts.lists += 1;
-    for &question in &case.questions {
-        let asked = compare(port::ask, &case.memory, question).and_then(|expected| planted(case, expected));
-        let expected = asked.map_err(|message| format!("{question:?}: {message}\n{}", shown(&case.memory)))?;
-        counts.add(&expected, &case.memory);
-    }
-    Ok(())
-}
-
-fn planted(case: &Case, expected: Expected) -> Result<Expected, String> {
-    match case.planted {
-        Some(code) if expected != Expected::Refused(code) => {
-            Err(format!("fault {code} was planted, expected is {expected:?}"))
+    let mut unplanted = None;
+    let mut after_15 = false;
+    let compared = compare_all(port::ask, case, |expected, call| {
+        if case.planted.is_some_and(|code| *expected != Expected::Refused(code)) {
+            unplanted.get_or_insert_with(|| format!("a fault was planted, expected is {expected:?}"));
         }
-        _ => Ok(expected),
-    }
+        counts.after_15 += u64::from(after_15);
+        after_15 = case.one_memory && (after_15 || *expected == Expected::NoRoom);
+        counts.add(expected, &call.memory);
+    });
+    let all = compared.and(unplanted.map_or(Ok(()), Err));
+    all.map_err(|message| format!("{message}\n{}", shown(&case.call.memory)))
 }
 
 /// The counts, and the lent words of the rows and entries counted.
@@ -87,10 +95,11 @@ fn shown(memory: &Memory) -> String {
         &rest[..count.min(rest.len())]
     };
     format!(
-        "{} sorts, {} entries, {} words lent\nrows {:?}\nentries {:?}",
+        "{} sorts, {} entries, {} words lent, {} of index\nrows {:?}\nentries {:?}",
         memory.sort_count,
         memory.entry_count,
         memory.sorts.len(),
+        memory.index,
         words(0, memory.sort_count.saturating_mul(ROW)),
         words(ENTRIES_AT, memory.entry_count)
     )
@@ -104,6 +113,13 @@ impl Counts {
         self.sorts += made;
         self.made += u64::from(made > 0);
         self.made_with_none += u64::from(made > 0 && matches!(expected, Expected::Bound { sort: None, .. }));
+        self.longer += u64::from(expected.makes() && memory.index > INDEX);
+        if let Expected::Bound { sorts, .. } = expected {
+            let walks = Walks::of(sorts.iter().cloned());
+            self.longest_walk = self.longest_walk.max(walks.longest);
+            self.round += u64::from(walks.round);
+            self.full += u64::from(sorts.len() == MAX_SORTS);
+        }
     }
 
     fn print(&self) {
@@ -112,6 +128,10 @@ impl Counts {
         println!(
             "  answers that stored sorts: {}, of them none: {}; sorts stored: {}",
             self.made, self.made_with_none, self.sorts
+        );
+        println!(
+            "  index: longer than 2,048 words: {}, longest walk: {}, with a walk round the end: {}, 1,024 sorts: {}; calls after a 15 in the same memory: {}",
+            self.longer, self.longest_walk, self.round, self.full, self.after_15
         );
     }
 }

@@ -21,9 +21,9 @@ fn run(options: &Options) -> Result<(), Failure> {
     let questions: usize = cases.iter().map(|case| case.questions.len()).sum();
     print!("{}", header(seed, cases.len(), questions));
     for case in &cases {
-        print!("{}", list_text(&case.memory));
+        print!("{}", list_text(&case.call.memory));
         for &question in &case.questions {
-            let expected = expected(&case.memory, question).map_err(Failure::Run)?;
+            let expected = expected(&case.call.memory, question).map_err(Failure::Run)?;
             print!("{}", question_text(question, expected.packed()));
         }
     }

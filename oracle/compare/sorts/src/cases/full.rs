@@ -24,7 +24,7 @@ pub fn rows(mut draft: Draft, junk: &Junk) -> Case {
     }
     let count = draft.rng.between(MAX_SORTS - 2, MAX_SORTS);
     pad(&mut draft, count);
-    Case { memory: draft.memory(junk), questions, planted: None }
+    Case { questions, ..Case::about(draft.memory(junk), &[]) }
 }
 
 /// 4,080 to 4,096 entries.
@@ -32,7 +32,7 @@ pub fn entries(mut draft: Draft, junk: &Junk) -> Case {
     stray_entries(&mut draft);
     let questions = questions(&mut draft);
     fill_entries(&mut draft);
-    Case { memory: draft.memory(junk), questions, planted: None }
+    Case { questions, ..Case::about(draft.memory(junk), &[]) }
 }
 
 /// Adds sorts: every question about two of them, and joins and meets that mostly make sorts.
@@ -87,7 +87,7 @@ mod tests {
     fn counts(class: Class) -> impl Iterator<Item = (usize, usize)> {
         let cases = Cases::new(class, 1);
         (0..500)
-            .map(move |index| cases.case(index).expect("a random class has no end").memory)
+            .map(move |index| cases.case(index).expect("a random class has no end").call.memory)
             .map(|memory| (memory.sort_count, memory.entry_count))
     }
 

@@ -1,6 +1,8 @@
 //! The cases: lists with questions about them. Case N of a class and seed is always the same.
 
+mod again;
 mod chain;
+mod clash;
 mod damage;
 mod full;
 mod pairs;
@@ -14,6 +16,8 @@ use lists::memory::Memory;
 use lists::question::Question;
 use lists::rng::Rng;
 use lists::verdict::Shape;
+
+use crate::call::Call;
 
 pub use lists::generate::of_sorts;
 pub use sample::sample;
@@ -38,10 +42,14 @@ pub enum Class {
     Damaged,
     /// A few words, counts or lengths changed at random.
     Words,
+    /// Up to 1,024 sorts whose places in the index are those of the sorts that are asked about, or before them.
+    Clash,
+    /// Calls one after another over the same memory, some of which end with 15.
+    Again,
 }
 
 impl Class {
-    pub const ALL: [(Class, &'static str); 8] = [
+    pub const ALL: [(Class, &'static str); 10] = [
         (Class::Pairs, "pairs"),
         (Class::Mixed, "mixed"),
         (Class::Deep, "deep"),
@@ -50,6 +58,8 @@ impl Class {
         (Class::FullEntries, "full-entries"),
         (Class::Damaged, "damaged"),
         (Class::Words, "words"),
+        (Class::Clash, "clash"),
+        (Class::Again, "again"),
     ];
 
     pub fn name(self) -> &'static str {
@@ -59,8 +69,10 @@ impl Class {
 
 /// A list in memory with questions about it.
 pub struct Case {
-    pub memory: Memory,
+    pub call: Call,
     pub questions: Vec<Question>,
+    /// The questions are asked one after another over the same memory, each over what the call before has left.
+    pub one_memory: bool,
     /// The check that must refuse every question, where a fault was planted.
     pub planted: Option<u16>,
 }
@@ -69,7 +81,7 @@ impl Case {
     /// Every question about each of the pairs.
     fn about(memory: Memory, pairs: &[(u16, u16)]) -> Case {
         let questions = pairs.iter().flat_map(|&(lhs, rhs)| of_sorts(lhs, rhs)).collect();
-        Case { memory, questions, planted: None }
+        Case { call: Call::new(memory), questions, one_memory: false, planted: None }
     }
 }
 
@@ -90,7 +102,7 @@ impl Cases {
     /// Case `index`, or `None` past the end of an enumerated class.
     pub fn case(&self, index: u64) -> Option<Case> {
         let rng = &mut Rng::of_list(self.seed, index);
-        let case = match self.class {
+        let mut case = match self.class {
             Class::Pairs => pairs::pair(Draft::new(rng), &self.junk, &self.small, index)?,
             Class::Mixed => mixed(Draft::new(rng), &self.junk),
             Class::Deep => chain::deep(Draft::new(rng), &self.junk),
@@ -99,7 +111,10 @@ impl Cases {
             Class::FullEntries => full::entries(Draft::new(rng), &self.junk),
             Class::Damaged => damage::damaged(rng, &self.junk, index),
             Class::Words => words::changed(rng, &self.junk),
+            Class::Clash => clash::clash(Draft::new(rng), &self.junk),
+            Class::Again => again::again(Draft::new(rng), &self.junk),
         };
+        case.call.lend_index(rng, &self.junk);
         Some(case)
     }
 }

@@ -6,6 +6,7 @@ use lists::memory::*;
 use lists::rng::Rng;
 use lists::verdict::Shape;
 
+use crate::call::Call;
 use crate::cases::Case;
 use crate::cases::Cases;
 use crate::cases::Class;
@@ -30,18 +31,21 @@ pub fn sample(seed: u64) -> Vec<Case> {
 
 fn of_class(class: Class, seed: u64) -> impl Iterator<Item = Case> {
     let cases = Cases::new(class, seed);
-    (0..).filter_map(move |index| cases.case(index)).filter(fits)
+    (0..)
+        .filter_map(move |index| cases.case(index))
+        .map(|case| Case { call: Call::new(case.call.memory), ..case })
+        .filter(fits)
 }
 
 /// Whether a question of the case meets the ceiling.
 fn runs_out(case: &Case) -> bool {
-    case.questions.iter().any(|&question| expected(&case.memory, question) == Ok(Expected::NoRoom))
+    case.questions.iter().any(|&question| expected(&case.call.memory, question) == Ok(Expected::NoRoom))
 }
 
 /// Whether the lines of the sample can say the list: its counts are those of its rows, and the
 /// program that reads it lends full storage.
 fn fits(case: &Case) -> bool {
-    let memory = &case.memory;
+    let memory = &case.call.memory;
     memory.sort_count <= MOST_SORTS && memory.entry_count <= MAX_ENTRIES && memory.sorts.len() >= SORT_STORAGE
 }
 
