@@ -6,6 +6,7 @@ mod machine;
 mod plot;
 mod report;
 mod sections;
+mod series;
 
 use std::fs;
 use std::path::Path;
@@ -16,14 +17,18 @@ use common::options;
 use common::options::Failure;
 use common::options::Options;
 use sections::Asked;
+use series::Before;
 
-/// `side` and `list` are for the runs under callgrind, which `count.rs` starts.
-const DEFAULTS: [(&str, &str); 7] = [
+/// With `save` checks and interning are timed alone and kept in that file; `before` is such a file of another run. `side` and `list`
+/// are for the runs under callgrind, which `count.rs` starts.
+const DEFAULTS: [(&str, &str); 9] = [
     ("out", "../docs"),
     ("seed", "1"),
     ("lists", "40"),
     ("repeats", "20"),
     ("busy", "refuse"),
+    ("save", ""),
+    ("before", ""),
     ("side", ""),
     ("list", ""),
 ];
@@ -43,6 +48,7 @@ fn run(options: &Options) -> Result<(), Failure> {
         return count::calls(options.text("list"), options.text("side"), seed)
             .map_err(Failure::Option);
     }
+    let before = before(options.text("before"))?;
     let others = machine::others_now();
     if others > machine::QUIET && options.text("busy") != "measure" {
         let what =
@@ -58,17 +64,47 @@ fn run(options: &Options) -> Result<(), Failure> {
         lists: options.number("lists")? as usize,
         repeats: options.number("repeats")? as usize,
     };
+    let series = series::measured(&asked);
+    let save = Path::new(options.text("save"));
+    if save != Path::new("") {
+        let said = report::run(&asked, watch.others());
+        return written(save, series::file(&series, &said));
+    }
     let (tables, growth) = (sections::tables(&asked), sections::growth(&asked));
     let others = watch.others();
     let counts = count::all(seed);
+    let report = report::report(
+        &asked,
+        others,
+        &tables,
+        &growth,
+        &series,
+        before.as_ref(),
+        &counts,
+    );
     let out = Path::new(options.text("out"));
-    let written = |name: &str, text: String| {
-        fs::write(out.join(name), text)
-            .map_err(|failure| Failure::Run(format!("{name}: {failure}")))
-    };
+    written(&out.join("BENCH.md"), report)?;
     written(
-        "BENCH.md",
-        report::report(&asked, others, &tables, &growth, &counts),
-    )?;
-    written("bench.svg", plot::plot(&tables, &growth))
+        &out.join("bench.svg"),
+        plot::plot(&tables, &growth, &series, before.as_ref()),
+    )
+}
+
+/// What another run found, where a file of it is given.
+fn before(path: &str) -> Result<Option<Before>, Failure> {
+    if path.is_empty() {
+        return Ok(None);
+    }
+    let text =
+        fs::read_to_string(path).map_err(|failure| Failure::Run(format!("{path}: {failure}")))?;
+    Before::read(&text)
+        .map(Some)
+        .map_err(|message| Failure::Run(format!("{path}, {message}")))
+}
+
+fn written(path: &Path, text: String) -> Result<(), Failure> {
+    let name = path.display();
+    fs::write(path, text).map_err(|failure| Failure::Run(format!("{name}: {failure}")))?;
+    println!("bench: {name} is written");
+    Ok(())
 }

@@ -1,4 +1,4 @@
-//! The plot: how times grow, and the ratios of all rows.
+//! The plot: how times grow, those of checks and interning with the number of sorts, and the ratios of all rows.
 
 use common::clock::median;
 use common::times::Times;
@@ -6,6 +6,9 @@ use common::times::Times;
 use crate::sections::Growth;
 use crate::sections::Row;
 use crate::sections::Table;
+use crate::series::Before;
+use crate::series::Points;
+use crate::series::Series;
 
 const WIDTH: f64 = 960.0;
 const PANEL: f64 = 240.0;
@@ -14,6 +17,9 @@ const LEFT: f64 = 56.0;
 const TOP: f64 = 64.0;
 const BAR: f64 = 15.0;
 
+/// What is above and below the panels of a row.
+const AROUND_PANELS: f64 = 96.0;
+
 /// Name, colour and value of a line.
 const LINES: [(&str, &str, fn(&Times) -> f64); 3] = [
     ("port", "#c0392b", |times| times.port),
@@ -21,30 +27,107 @@ const LINES: [(&str, &str, fn(&Times) -> f64); 3] = [
     ("Rust, list put in", "#7d8c94", Times::loaded),
 ];
 
-pub fn plot(tables: &[Table], growth: &[Growth]) -> String {
-    let bars_at = TOP + PANEL_HEIGHT + 96.0;
+/// The name of the line of the libraries that had no index, and its colour.
+const BEFORE: (&str, &str) = ("port before C-14", "#e59866");
+
+/// A line of a panel.
+struct Line {
+    colour: &'static str,
+    /// Sizes and values.
+    points: Vec<(f64, f64)>,
+}
+
+pub fn plot(
+    tables: &[Table],
+    growth: &[Growth],
+    series: &[Series],
+    before: Option<&Before>,
+) -> String {
+    let sorts_at = TOP + PANEL_HEIGHT + AROUND_PANELS + 16.0;
+    let bars_at = sorts_at + PANEL_HEIGHT + AROUND_PANELS;
     let bars: usize = tables.iter().map(|table| table.rows.len() + 1).sum();
     let height = bars_at + BAR * bars as f64 + 40.0;
     let mut svg = format!(
         "<svg xmlns=\"http://www.w3.org/2000/svg\" width=\"{WIDTH}\" height=\"{height}\" viewBox=\"0 0 {WIDTH} {height}\" \
          font-family=\"sans-serif\" font-size=\"11\" fill=\"#222\">\n<rect width=\"100%\" height=\"100%\" fill=\"white\"/>\n"
     );
-    svg += &text(
-        LEFT,
-        20.0,
-        "start",
+    let named = LINES.map(|(name, colour, _)| (name, colour));
+    svg += &heading(
         "Time of a call as one thing grows. 1 is the Rust with the list put in, at the smallest size",
+        &named,
+        TOP,
     );
-    for (index, (name, colour, _)) in LINES.iter().enumerate() {
-        let x = LEFT + 150.0 * index as f64;
-        svg += &line(x, 36.0, x + 24.0, 36.0, colour, 2.0);
-        svg += &text(x + 30.0, 40.0, "start", name);
-    }
     for (index, growth) in growth.iter().enumerate() {
-        svg += &panel(growth, LEFT + (PANEL + 64.0) * index as f64);
+        svg += &panel(growth.name, &lines_of(growth), at_column(index), TOP);
+    }
+    let [port, rust, put_in] = named;
+    svg += &heading(
+        "Nanoseconds as the number of sorts grows",
+        &[port, BEFORE, rust, put_in],
+        sorts_at,
+    );
+    for (index, series) in series.iter().enumerate() {
+        let name = format!("sorts: {}", series.what.name);
+        svg += &panel(
+            &name,
+            &lines_of_series(series, before),
+            at_column(index),
+            sorts_at,
+        );
     }
     svg += &bars_of(tables, bars_at);
     svg + "</svg>\n"
+}
+
+/// What a row of panels shows, and the colours of its lines.
+fn heading(what: &str, names: &[(&str, &str)], top: f64) -> String {
+    let mut svg = text(LEFT, top - 44.0, "start", what);
+    for (index, (name, colour)) in names.iter().enumerate() {
+        let x = LEFT + 150.0 * index as f64;
+        svg += &line(x, top - 28.0, x + 24.0, top - 28.0, colour, 2.0);
+        svg += &text(x + 30.0, top - 24.0, "start", name);
+    }
+    svg
+}
+
+fn at_column(index: usize) -> f64 {
+    LEFT + (PANEL + 64.0) * index as f64
+}
+
+/// The times of a row over that of the Rust with the list put in, at the smallest size.
+fn lines_of(growth: &Growth) -> Vec<Line> {
+    let unit = growth
+        .sizes
+        .first()
+        .map_or(1.0, |(_, row)| median_of(row, Times::loaded));
+    let line = |(_, colour, value): (&str, &'static str, fn(&Times) -> f64)| Line {
+        colour,
+        points: growth
+            .sizes
+            .iter()
+            .map(|(size, row)| (*size as f64, median_of(row, value) / unit))
+            .collect(),
+    };
+    LINES.map(line).into()
+}
+
+fn lines_of_series(series: &Series, before: Option<&Before>) -> Vec<Line> {
+    let line = |colour, points: Points| Line {
+        colour,
+        points: points
+            .into_iter()
+            .map(|(sorts, time)| (sorts as f64, time))
+            .collect(),
+    };
+    let rust = LINES[if series.what.put_in { 2 } else { 1 }].1;
+    let before = before.map(|before| line(BEFORE.1, before.of(series.what)));
+    [
+        line(LINES[0].1, series.port.clone()),
+        line(rust, series.rust.clone()),
+    ]
+    .into_iter()
+    .chain(before)
+    .collect()
 }
 
 fn text(x: f64, y: f64, anchor: &str, text: &str) -> String {
@@ -88,62 +171,39 @@ impl Scale {
     }
 }
 
-fn panel(growth: &Growth, left: f64) -> String {
-    let unit = growth
-        .sizes
-        .first()
-        .map_or(1.0, |(_, row)| median_of(row, Times::loaded));
-    let points: Vec<Vec<(f64, f64)>> = LINES
-        .iter()
-        .map(|&(_, _, value)| {
-            growth
-                .sizes
-                .iter()
-                .map(|(size, row)| (*size as f64, median_of(row, value) / unit))
-                .collect()
-        })
-        .collect();
-    let values = points
-        .iter()
-        .flatten()
-        .map(|&(_, value)| value)
-        .filter(|value| *value > 0.0);
-    let across = growth.sizes.iter().map(|(size, _)| *size as f64);
-    let (first, last) = (
-        across.clone().fold(f64::MAX, f64::min),
-        across.clone().fold(f64::MIN, f64::max),
-    );
+/// A size is named where its name does not run into that of the next larger one.
+const NAME_WIDTH: f64 = 26.0;
+
+fn panel(name: &str, lines: &[Line], left: f64, top: f64) -> String {
+    let points = || {
+        let points = lines.iter().flat_map(|line| &line.points);
+        points.copied().filter(|(_, value)| *value > 0.0)
+    };
+    let mut sizes: Vec<f64> = points().map(|(size, _)| size).collect();
+    sizes.sort_unstable_by(f64::total_cmp);
+    sizes.dedup();
+    let (Some(&first), Some(&last)) = (sizes.first(), sizes.last()) else {
+        return String::new();
+    };
+    let bottom = top + PANEL_HEIGHT;
     let x = |size: f64| left + (size / first).ln() / (last / first).ln() * PANEL;
-    let scale = Scale::around(values, PANEL_HEIGHT);
-    let y = |value: f64| TOP + PANEL_HEIGHT - scale.at(value);
+    let scale = Scale::around(points().map(|(_, value)| value), PANEL_HEIGHT);
+    let y = |value: f64| bottom - scale.at(value);
     let mut svg = String::new();
     for power in scale.powers() {
         svg += &line(left, y(power), left + PANEL, y(power), "#ddd", 1.0);
         svg += &text(left - 6.0, y(power) + 4.0, "end", &power.to_string());
     }
-    for size in across {
-        svg += &line(
-            x(size),
-            TOP + PANEL_HEIGHT,
-            x(size),
-            TOP + PANEL_HEIGHT + 4.0,
-            "#222",
-            1.0,
-        );
-        svg += &text(
-            x(size),
-            TOP + PANEL_HEIGHT + 17.0,
-            "middle",
-            &size.to_string(),
-        );
+    let mut free = f64::MAX;
+    for &size in sizes.iter().rev() {
+        svg += &line(x(size), bottom, x(size), bottom + 4.0, "#222", 1.0);
+        if x(size) <= free {
+            svg += &text(x(size), bottom + 17.0, "middle", &size.to_string());
+            free = x(size) - NAME_WIDTH;
+        }
     }
-    svg += &text(
-        left + PANEL / 2.0,
-        TOP + PANEL_HEIGHT + 34.0,
-        "middle",
-        growth.name,
-    );
-    for ((_, colour, _), points) in LINES.iter().zip(&points) {
+    svg += &text(left + PANEL / 2.0, bottom + 34.0, "middle", name);
+    for Line { colour, points } in lines {
         let points: Vec<(f64, f64)> = points
             .iter()
             .filter(|(_, value)| *value > 0.0)
@@ -231,4 +291,73 @@ fn bars_of(tables: &[Table], top: f64) -> String {
         }
     }
     svg
+}
+
+#[cfg(test)]
+mod tests {
+    use super::*;
+    use crate::series;
+    use crate::series::tests::of_power;
+
+    fn lines_drawn(svg: &str, colour: &str) -> usize {
+        svg.matches(&format!(
+            "stroke=\"{colour}\" stroke-width=\"2\"/>\n<circle"
+        ))
+        .count()
+    }
+
+    /// Three panels; the filling has no line of before, and interning one point less than the nine sizes.
+    #[test]
+    fn the_series_are_drawn() {
+        let series = of_power(1.0);
+        let before = Before::read(&series::file(&of_power(2.0), "A run.")).expect("as saved");
+        let drawn = plot(&[], &[], &series, Some(&before));
+        let alone = plot(&[], &[], &series, None);
+        assert_eq!(lines_drawn(&drawn, LINES[0].1), 3);
+        assert_eq!(lines_drawn(&drawn, BEFORE.1), 2);
+        assert_eq!(lines_drawn(&alone, BEFORE.1), 0);
+        assert_eq!(drawn.matches("<circle").count(), (9 + 8 + 9) * 2 + 9 + 8);
+        assert_eq!(drawn.matches(">port before C-14<").count(), 1);
+        assert!(!drawn.contains("NaN") && !drawn.contains("inf"));
+    }
+
+    /// Of a time that grows with the number of sorts, the line goes from a corner's height to another's, both powers of ten.
+    #[test]
+    fn a_panel_is_logarithmic() {
+        let points = vec![(1.0, 1.0), (10.0, 10.0), (100.0, 100.0), (1_000.0, -1.0)];
+        let svg = panel(
+            "sorts",
+            &[Line {
+                colour: "red",
+                points,
+            }],
+            0.0,
+            0.0,
+        );
+        let corners = format!("0.0,{PANEL_HEIGHT:.1} 120.0,100.0 {PANEL:.1},0.0");
+        assert!(svg.contains(&corners), "{svg}");
+        assert!(!svg.contains(">1000<"));
+    }
+
+    /// 700 is not named, since its name would run into that of 1,000.
+    #[test]
+    fn names_of_sizes_do_not_run_together() {
+        let points = [6.0, 400.0, 700.0, 1_000.0].map(|size| (size, 1.0)).into();
+        let svg = panel(
+            "sorts",
+            &[Line {
+                colour: "red",
+                points,
+            }],
+            0.0,
+            0.0,
+        );
+        let named = [6, 400, 700, 1000].map(|size| svg.contains(&format!(">{size}<")));
+        assert_eq!(named, [true, true, false, true]);
+    }
+
+    #[test]
+    fn a_panel_of_nothing_is_empty() {
+        assert_eq!(panel("sorts", &[], 0.0, 0.0), "");
+    }
 }
