@@ -174,8 +174,9 @@ fn sort_or_put(sorts: &mut SortInterner, line: &[u8], out: &mut Out) -> Option<S
     }
 }
 
-// What a pair prints, its sorts in a storage of its own, found by an index of its own.
-fn put_pair(first: &[u8], second: &[u8], out: &mut Out)
+// What a pair prints before its LF, its sorts in a storage of its own, found by an index of its own; as far as there is
+// room. For a caller that ends the line itself, as is put_single.
+pub fn put_pair(first: &[u8], second: &[u8], out: &mut Out)
     ensures { out.new ≡ then_put out.old (pair_of first.now second.now) }
 {
     let mut words = [0u16; SORT_WORDS];
@@ -209,8 +210,8 @@ fn test_line(line: &[u8]) -> Result<(), Unread>
     Ok(())
 }
 
-// What a line alone prints: 21, or what is wrong with the line.
-fn put_single(line: &[u8], out: &mut Out)
+// What a line alone prints before its LF: 21, or what is wrong with the line; as far as there is room.
+pub fn put_single(line: &[u8], out: &mut Out)
     ensures { out.new ≡ then_put out.old (single_of (line_of line.now)) }
 {
     match test_line(line) {
