@@ -100,7 +100,8 @@ impl<'a> Lines<'a> {
         for at in self.at..self.end.min(self.buffer.len()) {
             let byte = self.buffer[at];
             self.at = at + 1;
-            if byte == b'\n' {
+            let ends = byte == b'\n';
+            if ends {
                 return true;
             }
             self.line.put_byte(byte);
