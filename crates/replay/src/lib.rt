@@ -94,7 +94,8 @@ pub fn fields_of(line: &[u8]) -> Option<Fields>
         values[count] = value;
         at = next;
     }
-    if at < line.len() {
+    let more = at < line.len();
+    if more {
         return None;
     }
     Some(Fields {

@@ -1,5 +1,5 @@
 -- The line ends, or no space or no number follows, or one more number; and no number past the last. Assumes nothing.
-use Rattle.std.proofs.Common.{refl, sym, ◌∙◌, arith, length-set}
+use Rattle.std.proofs.Common.{refl, sym, ◌∙◌, arith, rules, length-set}
 use Rattle.replay.proofs.Numbers as law
 use Rattle.replay.specs.Inner.Numbers.{fields_of}
 use Rattle.replay.proofs.fields_of.Goals as goal
@@ -26,8 +26,8 @@ loop-count-preserved c = (
       (sym c.number_at.ensures ∙ c.in_ok-value.was)) ∙ c.loop-count.invariant.1,
 )
 
-pub returns-then-at-line-clause-numbers : goal.returns-then-at-line-clause-numbers
-returns-then-at-line-clause-numbers c = law.fields_over _ _ _ _ c.loop-count-test.false c.if-at-line.true ∙ c.loop-count.invariant.1
+pub returns-then-more-clause-numbers : goal.returns-then-more-clause-numbers
+returns-then-more-clause-numbers c = law.fields_over _ _ _ _ c.loop-count-test.false (search rules) ∙ c.loop-count.invariant.1
 
 pub returns-clause-numbers : goal.returns-clause-numbers
-returns-clause-numbers c = law.fields_full _ _ _ _ c.loop-count-test.false (omega arith) c.if-at-line.false ∙ c.loop-count.invariant.1
+returns-clause-numbers c = law.fields_full _ _ _ _ c.loop-count-test.false (omega arith) (search rules) ∙ c.loop-count.invariant.1
