@@ -63,7 +63,7 @@ const COUNTS_AT: usize = INDEX_AT + SLOTS;
 
 const DEFAULT_AT: usize = COUNTS_AT + 10;
 
-const HELD_WORDS: usize = COUNTS_AT + COUNTS;
+pub const HELD_WORDS: usize = COUNTS_AT + COUNTS;
 
 // The words for the typing and for the choices.
 const TYPING_ROOM: usize = TYPING_WORDS * MAX_EXPRS;

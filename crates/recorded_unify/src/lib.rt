@@ -30,7 +30,7 @@ const BINDINGS_AT: usize = NODES_AT + NODE_WORDS;
 
 const LEFT_AT: usize = BINDINGS_AT + MAX_VARS;
 
-const LIST_WORDS: usize = LEFT_AT + MAX_VARS;
+pub const LIST_WORDS: usize = LEFT_AT + MAX_VARS;
 
 // The ceilings of a list, as numbers of a line.
 const SORTS: u64 = MAX_SORTS as u64;

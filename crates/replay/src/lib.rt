@@ -231,7 +231,7 @@ fn finish_unless<W: Write>(out: &mut W, tally: Tally, well: bool, text: &[u8]) -
 
 // How many answers were checked and how many lines do not agree, where all of the input was read and its last list is
 // complete, or not.
-fn finish<W: Write>(out: &mut W, tally: Tally, read: bool, complete: bool) -> io::Result<()>
+pub fn finish<W: Write>(out: &mut W, tally: Tally, read: bool, complete: bool) -> io::Result<()>
     ensures { OnOk result (Appends (W.contents out.old) (W.contents out.new) (end_said tally read complete)) }
 {
     let tally = finish_unless(out, tally, read, b"the input cannot be read\n")?;
