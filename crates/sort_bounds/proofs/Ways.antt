@@ -11,7 +11,7 @@ use lib.Seq.{length-take-le}
 use lib.Dec.{eqb}
 use borrow.Author.Tests.{eq-eqb}
 use Rattle.std.specs.Prelude.{Option, Some, None, Result, Ok, Err}
-use Rattle.std.specs.Result.{IsErr}
+use Rattle.std.specs.Result.{IsErr, OnErr}
 use Rattle.resolved_sort.specs.declared.SortId.{SortId}
 use Rattle.resolved_sort.specs.declared.Sort.{Sort}
 use Rattle.resolved_sort.specs.declared.ComplexSort.{ComplexSort}
@@ -22,10 +22,10 @@ use Rattle.resolved_sort.specs.declared.ResolvedSort.{ResolvedSort}
 use Rattle.resolved_sort.specs.declared.ResolvedSort.TheVariants.{Primitive, Container, Function}
 use Rattle.resolved_sort.specs.Entries.{Joined}
 use Rattle.resolved_sort.specs.Entries.{At, Nothing, Full}
-use Rattle.resolved_sort.specs.Tree.{primitive, container, function as functionSort, family, level, family_op, level_op}
+use Rattle.resolved_sort.specs.Tree.{Tree, primitive, container, function as functionSort, family, level, family_op, level_op}
 use Rattle.resolved_sort.specs.Order.{le_level, bound_op}
-use Rattle.resolved_sort.specs.Interning.{look}
-use Rattle.resolved_sort.specs.Storage.{trees, look_all, row_at, count_at, start_at, part_at, entry_at}
+use Rattle.resolved_sort.specs.Interning.{look, Outcome, make}
+use Rattle.resolved_sort.specs.Storage.{trees, sorts_of, look_all, row_at, count_at, start_at, part_at, entry_at}
 use Rattle.resolved_sort.specs.Rows.{Checked, AllBelow, stored_at, left_at, interned_at}
 use Rattle.resolved_sort.specs.Inner.Pairs.{Functions, pair_of, with_function, pair_at}
 use Rattle.resolved_sort.specs.Bounds.{Asked, bound_at, intern_at}
@@ -33,7 +33,11 @@ use Rattle.resolved_sort.specs.Inner.Bounds.{container_at, TwoFunctions, All, No
 use Rattle.resolved_sort.specs.Inner.Storage.{sort_numbers}
 use Rattle.resolved_sort.proofs.SortNumbers.{set_sort_numbers, zeros_sort_numbers, take_sort_numbers}
 use Rattle.resolved_sort.proofs.Pairs.{Unlike, OfContainers}
-use Rattle.resolved_sort.proofs.Reached.{no_confusion}
+use Rattle.resolved_sort.proofs.Grown.{grown_none}
+use Rattle.resolved_sort.proofs.Kept.{make_kept}
+use Rattle.resolved_sort.proofs.Stored.{look_whole}
+use Rattle.resolved_sort.proofs.Unchanged.{longer, entries_longer}
+use Rattle.resolved_sort.proofs.Reached.{no_confusion, Reached, reached, reached_sorts}
 use Rattle.resolved_sort.proofs.RowsSay.{numbers_differ, primitives, containers}
 use Rattle.resolved_sort.proofs.BoundsCode as law
 use Rattle.resolved_sort.proofs.DomainCode as domain
@@ -69,6 +73,51 @@ full_of ws K r z = ap (interned_at ws K) (sym z)
 pub made_of : (ws : List ℕ) (K : Counts) (r : Result SortId NoRoom) {i : SortId} → r ≡ Ok i → stored_at ws (At i K) ≡ interned_at ws K r
 made_of ws K r z = ap (interned_at ws K) (sym z)
 
+-- what a call that ended for want of room has left: a checked list, as long as before or longer
+abbrev pub Usable : List ℕ → Counts → Counts → Type 0
+Usable vs C K = Checked vs K.sorts K.entries × (C.sorts ≤ K.sorts) × (C.entries ≤ K.entries)
+
+pub err_usable : {A : Type 0} {P : Type 0} (r : Result A NoRoom) → P → OnErr r P
+err_usable (Ok x) p = tt
+err_usable (Err e) p = p
+
+pub at_err : {A : Type 0} {P : Type 0} (r : Result A NoRoom) {e : NoRoom} → r ≡ Err e → OnErr r P → P
+at_err (Ok x) z p = let w : Ok x ≡ Err _ = z in no_confusion (cc)
+at_err (Err e) z p = p
+
+pub usable_after : (vs : List ℕ) (B C K : Counts) → (B.sorts ≤ C.sorts) × (B.entries ≤ C.entries) → Usable vs C K → Usable vs B K
+usable_after vs B C K b u = (u.0, omega (arith, b.0, u.1), omega (arith, b.1, u.2))
+
+-- a call that leaves the list and its counts as they are
+pub usable_kept : (vs us : List ℕ) (C K L : Counts) → Checked vs K.sorts K.entries → (C.sorts ≤ K.sorts) × (C.entries ≤ K.entries)
+    → (L ≡ K) × (us ≡ vs) → Usable us C L
+usable_kept vs us C K L k g e = rw (e.0, e.1) (k, g.0, g.1)
+
+-- a call that has answered a sort has left a list as long as before or longer
+module _ (ws : List ℕ) (C : Counts) (up : Bool) (a b : ℕ) (q : Asked ws C.sorts C.entries a b) where
+  abbrev makes : Outcome Tree
+  makes = make up (look (trees ws C.sorts) a) (look (trees ws C.sorts) b) (sorts_of ws C.sorts C.entries)
+
+  module _ (vs : List ℕ) (K : Counts) (r : Result (Option SortId) NoRoom) (left : left_at vs K r ≡ bound_at up ws C.sorts C.entries a b)
+      (c : SortId) (z : r ≡ Ok (Some c)) where
+    answered : Reached ws C.sorts C.entries (sorts_of ws C.sorts C.entries) makes vs c K
+    unfolding bound_at
+    answered =
+        reached ws C.sorts C.entries (sorts_of ws C.sorts C.entries) makes
+        (make_kept ws C.sorts C.entries up (look (trees ws C.sorts) a) (look (trees ws C.sorts) b) (sorts_of ws C.sorts C.entries)
+        (grown_none ws C.sorts C.entries q.checked) (look_whole ws C.sorts C.entries q.checked a q.lhs) (look_whole ws C.sorts C.entries q.checked b q.rhs))
+        vs c K (ap (left_at vs K) (sym z) ∙ left)
+
+    pub more : (C.sorts ≤ K.sorts) × (C.entries ≤ K.entries)
+    more = (
+      omega (
+        arith,
+        longer ws C.sorts C.entries q.checked answered.sorts answered.grown,
+        reached_sorts ws C.sorts C.entries (sorts_of ws C.sorts C.entries) makes vs c K answered,
+      ),
+      omega (arith, entries_longer ws C.sorts C.entries q.checked answered.sorts answered.grown, ap (λ (k : Counts). k.entries) answered.counted),
+    )
+
 -- the operator of a join or meet, by what the code picks
 as_picked : (f g : Bool) (o p : ComplexSort) {x : Option ComplexSort} → x ≡ cond f (Some (cond g p o)) None
     → (x ≡ None → cond f (some (cond g p o)) none ≡ none) × ((y : ComplexSort) → x ≡ Some y → cond f (some (cond g p o)) none ≡ some y)
@@ -98,6 +147,7 @@ pub record Going (up : Bool) (ws : List ℕ) (C : Counts) (a b : ℕ) (x y : Run
   pub lhs_start : start_at now a ≡ x.start
   pub rhs_start : start_at now b ≡ y.start
   pub lhs_count : count_at now a ≡ x.count
+  pub more : (C.sorts ≤ K.sorts) × (C.entries ≤ K.entries)
   pub same : bound_domain (not up) now K.sorts K.entries a b k (sort_numbers ids) ≡ bound_domain (not up) ws C.sorts C.entries a b 0 (replicate 16 0)
   pub long : length ids ≡ 16
 
@@ -153,6 +203,9 @@ module _ (ws : List ℕ) (C : Counts) (up : Bool) (a b : SortId) (q : Asked ws C
               (left : left_at vs K r ≡ bound_at up ws C.sorts C.entries s.0 t.0) where
             by_part : stored_at vs (joined K r) ≡ bound_at up ws C.sorts C.entries s.0 t.0
             by_part = left_is vs K r ∙ left
+
+            pub part_more : (c : SortId) → r ≡ Ok (Some c) → (C.sorts ≤ K.sorts) × (C.entries ≤ K.entries)
+            part_more c z = more ws C up s.0 t.0 parts_asked.1 vs K r left c z
 
             pub part_stops : r ≡ Ok None → stored_at vs (Nothing K) ≡ bound_at up ws C.sorts C.entries a.0 b.0
             part_stops z =
@@ -224,6 +277,7 @@ module _ (ws : List ℕ) (C : Counts) (up : Bool) (a b : SortId) (q : Asked ws C
               lhs_start = ap (λ (r : Run). r.start) lhs_run;
               rhs_start = ap (λ (r : Run). r.start) rhs_run;
               lhs_count = ap (λ (r : Run). r.count) lhs_run;
+              more = (omega arith, omega arith);
               same = ap (bound_domain (not up) ws C.sorts C.entries a.0 b.0 0) (zeros_sort_numbers 16);
               long = refl;
             }
@@ -287,6 +341,9 @@ module _ (ws : List ℕ) (C : Counts) (up : Bool) (a b : SortId) (q : Asked ws C
                       lhs_start = domain.lhs_start_unchanged (not up) now K a.0 b.0 g.functions k (sort_numbers ids) one_left vs (joined L j) by_entries c L at ∙ g.lhs_start;
                       rhs_start = domain.rhs_start_unchanged (not up) now K a.0 b.0 g.functions k (sort_numbers ids) one_left vs (joined L j) by_entries c L at ∙ g.rhs_start;
                       lhs_count = domain.count_unchanged (not up) now K a.0 b.0 g.functions k (sort_numbers ids) one_left vs (joined L j) by_entries c L at ∙ g.lhs_count;
+                      more =
+                          let m = more now K (not up) l.0 r.0 arguments_asked.1 vs L j left c z in
+                          (omega (arith, g.more.0, m.0), omega (arith, g.more.1, m.1));
                       same = ap (bound_domain (not up) vs L.sorts L.entries a.0 b.0 (k + 1)) (set_sort_numbers ids k c)
                           ∙ (domain.domain_goes_on (not up) now K a.0 b.0 g.functions k (sort_numbers ids) one_left vs (joined L j) by_entries c L at ∙ g.same);
                       long = length-set ids k c ∙ g.long;
@@ -326,6 +383,11 @@ module _ (ws : List ℕ) (C : Counts) (up : Bool) (a b : SortId) (q : Asked ws C
             module _ (us : List ℕ) (L : Counts) (j : Result (Option SortId) NoRoom) (left : left_at us L j ≡ bound_at up now K.sorts K.entries u.0 v.0) where
               by_parts : stored_at us (joined L j) ≡ bound_at up now K.sorts K.entries (part_at ws a.0) (part_at ws b.0)
               by_parts = left_is us L j ∙ (left ∙ ap₂ (bound_at up now K.sorts K.entries) (sym lhs_part) (sym rhs_part))
+
+              pub range_more : (c : SortId) → j ≡ Ok (Some c) → (C.sorts ≤ L.sorts) × (C.entries ≤ L.entries)
+              range_more c z =
+                  let m = more now K up u.0 v.0 range_asked.1 us L j left c z in
+                  (omega (arith, g.more.0, m.0), omega (arith, g.more.1, m.1))
 
               pub range_stops : j ≡ Ok None → stored_at us (Nothing L) ≡ bound_at up ws C.sorts C.entries a.0 b.0
               range_stops z =

@@ -3,9 +3,9 @@
 // stays. New sorts enter the index.
 #![tactic(auto)]
 
-ghost use Rattle.std.specs.Prelude.{◌≡◌, true, false, not};
+ghost use Rattle.std.specs.Prelude.{◌≡◌, ◌≤◌, true, false, not, OnErr};
 ghost use Rattle.resolved_sort.specs.Order.{le_level};
-ghost use Rattle.resolved_sort.specs.Rows.{left_at};
+ghost use Rattle.resolved_sort.specs.Rows.{left_at, Checked};
 ghost use Rattle.resolved_sort.specs.Bounds.{Asked, bound_at};
 ghost use Rattle.resolved_sort.specs.Index.{Indexed};
 ghost use Rattle.sort_bounds.specs.Farther.{farther};
@@ -49,6 +49,9 @@ pub fn join(sorts: &mut SortInterner, lhs: SortId, rhs: SortId) -> Result<Option
     ensures indexed { Indexed sorts.new.words.now sorts.new.counts.sorts sorts.new.index.now }
     ensures left { left_at sorts.new.words.now sorts.new.counts result
         ≡ bound_at true sorts.old.words.now sorts.old.counts.sorts sorts.old.counts.entries lhs.0 rhs.0 }
+    ensures usable { OnErr result (Checked sorts.new.words.now sorts.new.counts.sorts sorts.new.counts.entries
+        × (sorts.old.counts.sorts ≤ sorts.new.counts.sorts)
+        × (sorts.old.counts.entries ≤ sorts.new.counts.entries)) }
 {
     bound(sorts, true, lhs, rhs)
 }
@@ -64,6 +67,9 @@ pub fn meet(sorts: &mut SortInterner, lhs: SortId, rhs: SortId) -> Result<Option
     ensures indexed { Indexed sorts.new.words.now sorts.new.counts.sorts sorts.new.index.now }
     ensures left { left_at sorts.new.words.now sorts.new.counts result
         ≡ bound_at false sorts.old.words.now sorts.old.counts.sorts sorts.old.counts.entries lhs.0 rhs.0 }
+    ensures usable { OnErr result (Checked sorts.new.words.now sorts.new.counts.sorts sorts.new.counts.entries
+        × (sorts.old.counts.sorts ≤ sorts.new.counts.sorts)
+        × (sorts.old.counts.entries ≤ sorts.new.counts.entries)) }
 {
     bound(sorts, false, lhs, rhs)
 }
@@ -84,6 +90,9 @@ fn against(
     ensures indexed { Indexed sorts.new.words.now sorts.new.counts.sorts sorts.new.index.now }
     ensures left { left_at sorts.new.words.now sorts.new.counts result
         ≡ bound_at (not up) sorts.old.words.now sorts.old.counts.sorts sorts.old.counts.entries lhs.0 rhs.0 }
+    ensures usable { OnErr result (Checked sorts.new.words.now sorts.new.counts.sorts sorts.new.counts.entries
+        × (sorts.old.counts.sorts ≤ sorts.new.counts.sorts)
+        × (sorts.old.counts.entries ≤ sorts.new.counts.entries)) }
 {
     if up {
         meet(sorts, lhs, rhs)
@@ -108,6 +117,9 @@ pub fn bound(
     ensures indexed { Indexed sorts.new.words.now sorts.new.counts.sorts sorts.new.index.now }
     ensures left { left_at sorts.new.words.now sorts.new.counts result
         ≡ bound_at up sorts.old.words.now sorts.old.counts.sorts sorts.old.counts.entries lhs.0 rhs.0 }
+    ensures usable { OnErr result (Checked sorts.new.words.now sorts.new.counts.sorts sorts.new.counts.entries
+        × (sorts.old.counts.sorts ≤ sorts.new.counts.sorts)
+        × (sorts.old.counts.entries ≤ sorts.new.counts.entries)) }
 {
     if lhs == rhs {
         return Ok(Some(lhs));

@@ -3,7 +3,7 @@
 // back. Interning stands here alone.
 #![tactic(auto)]
 
-ghost use Rattle.std.specs.Prelude.{◌≡◌, cond, ◌+◌, ◌*◌, ◌≤◌, ◌<◌, List, ℕ, length, take, eqb};
+ghost use Rattle.std.specs.Prelude.{◌≡◌, cond, ◌+◌, ◌*◌, ◌≤◌, ◌<◌, List, ℕ, length, take, eqb, OnErr};
 ghost use Rattle.std.proofs.lemmas.List.Edits.{sets};
 ghost use Rattle.resolved_sort.specs.Storage.{max_sorts, max_entries, max_arguments, entries_at, full_length};
 ghost use Rattle.resolved_sort.specs.Storage.{row_words, fixed_sorts, fixed_rows};
@@ -346,6 +346,8 @@ impl<'a> SortInterner<'a> {
         ensures interned { interned_at self.new.words.now self.new.counts result
             ≡ intern_row self.old.words.now self.old.counts.sorts self.old.counts.entries
             (given_row row.now.kind row.now.part row.now.args.now) }
+        ensures kept { OnErr result
+            ((self.new.counts ≡ self.old.counts) × (self.new.words.now ≡ self.old.words.now)) }
     {
         if let Some(id) = self.find_row(row) {
             return Ok(id);
@@ -368,6 +370,8 @@ impl<'a> SortInterner<'a> {
         ensures interned { interned_at self.new.words.now self.new.counts result
             ≡ intern_at self.old.words.now self.old.counts.sorts self.old.counts.entries
             (container op (look (trees self.old.words.now self.old.counts.sorts) subsort.0)) }
+        ensures kept { OnErr result
+            ((self.new.counts ≡ self.old.counts) × (self.new.words.now ≡ self.old.words.now)) }
     {
         self.intern(&Row {
             kind: u16::from(op),
@@ -391,6 +395,8 @@ impl<'a> SortInterner<'a> {
             (functionSort
             (look_all (trees self.old.words.now self.old.counts.sorts) (sort_numbers domain.now))
             (look (trees self.old.words.now self.old.counts.sorts) range.0)) }
+        ensures kept { OnErr result
+            ((self.new.counts ≡ self.old.counts) × (self.new.words.now ≡ self.old.words.now)) }
     {
         self.intern(&Row {
             kind: FUNCTION_KIND,
@@ -432,6 +438,7 @@ pub fn generic_over(
     ensures interned { interned_at words.new result.1 result.0
         ≡ intern_at words.old counts.sorts counts.entries
         (container op (look (trees words.old counts.sorts) subsort.0)) }
+    ensures kept { OnErr result.0 ((result.1 ≡ counts) × (words.new ≡ words.old)) }
 {
     let mut interner = SortInterner {
         words,

@@ -35,6 +35,10 @@ bound-returns-in_err-subsort-in-Container-Container-clause-left t c =
     _ c.farther-in-Container-Container.ensures _ c.in-Some.is
     _ _ _ c.bound.ensures.left c.in_err-subsort-in-Container-Container.was
 
+pub bound-returns-in_err-subsort-in-Container-Container-clause-usable : goal.bound-returns-in_err-subsort-in-Container-Container-clause-usable
+bound-returns-in_err-subsort-in-Container-Container-clause-usable t c =
+    way.err_usable _ (way.at_err _ c.in_err-subsort-in-Container-Container.was c.bound.ensures.usable)
+
 pub bound-returns-in_default-2-clause-left : goal.bound-returns-in_default-2-clause-left
 bound-returns-in_default-2-clause-left t c =
     let s = c.args.sorts.now in
@@ -65,6 +69,23 @@ bound-returns-in_err-generic-in-Container-Container-clause-left t c =
     _ _ _ c.bound.ensures.left
     _ (c.in_ok-subsort-in-Container-Container.was ∙ ap Ok c.in-Some-2.is) c.generic.new.self.words.now c.generic.new.self.counts c.generic.result c.generic.ensures.interned)
 
+pub bound-returns-in_err-generic-in-Container-Container-clause-usable : goal.bound-returns-in_err-generic-in-Container-Container-clause-usable
+bound-returns-in_err-generic-in-Container-Container-clause-usable t c =
+    let s = c.args.sorts.now in
+    let i = c.in-Container-Container in
+    way.err_usable _ (way.usable_kept _ _ s.counts _ _
+    (way.generic_asked s.words.now s.counts c.args.up c.args.lhs c.args.rhs c.requires.asked
+    c.eq.ensures c.if-eq.false c.get.ensures c.get-2.ensures i.is-0 i.is-1
+    _ c.farther-in-Container-Container.ensures _ c.in-Some.is
+    _ _ _ c.bound.ensures.left
+    _ (c.in_ok-subsort-in-Container-Container.was ∙ ap Ok c.in-Some-2.is)).0
+    (way.part_more s.words.now s.counts c.args.up c.args.lhs c.args.rhs c.requires.asked
+    c.eq.ensures c.if-eq.false c.get.ensures c.get-2.ensures i.is-0 i.is-1
+    _ c.farther-in-Container-Container.ensures _ c.in-Some.is
+    _ _ _ c.bound.ensures.left
+    _ (c.in_ok-subsort-in-Container-Container.was ∙ ap Ok c.in-Some-2.is))
+    (way.at_err _ c.in_err-generic-in-Container-Container.was c.generic.ensures.kept))
+
 pub bound-loop-k-init : goal.bound-loop-k-init
 bound-loop-k-init t c =
     let s = c.args.sorts.now in
@@ -94,6 +115,10 @@ bound-returns-in_err-arg-in-Function-Function-clause-left t c =
     _ _ _ _ c.loop-k.invariant.3 c.loop-k-test.true _ _ c.argument-lhs_arg.ensures c.argument-rhs_arg.ensures
     _ _ _ c.against.ensures.left
     c.in_err-arg-in-Function-Function.was
+
+pub bound-returns-in_err-arg-in-Function-Function-clause-usable : goal.bound-returns-in_err-arg-in-Function-Function-clause-usable
+bound-returns-in_err-arg-in-Function-Function-clause-usable t c =
+    way.err_usable _ (way.usable_after _ _ _ _ c.loop-k.invariant.3.more (way.at_err _ c.in_err-arg-in-Function-Function.was c.against.ensures.usable))
 
 pub bound-returns-in_default-3-clause-left : goal.bound-returns-in_default-3-clause-left
 bound-returns-in_default-3-clause-left t c =
@@ -147,6 +172,11 @@ bound-returns-in_err-range-in-Function-Function-clause-left t c =
     c.loop-k.auto.k-end c.loop-k-test.false _ _ _ c.bound-in-Function-Function.ensures.left
     c.in_err-range-in-Function-Function.was
 
+pub bound-returns-in_err-range-in-Function-Function-clause-usable : goal.bound-returns-in_err-range-in-Function-Function-clause-usable
+bound-returns-in_err-range-in-Function-Function-clause-usable t c =
+    way.err_usable _ (way.usable_after _ _ _ _ c.loop-k.invariant.3.more
+    (way.at_err _ c.in_err-range-in-Function-Function.was c.bound-in-Function-Function.ensures.usable))
+
 pub bound-returns-in_default-4-clause-left : goal.bound-returns-in_default-4-clause-left
 bound-returns-in_default-4-clause-left t c =
     let s = c.args.sorts.now in
@@ -196,6 +226,23 @@ bound-returns-in_err-function-in-Function-Function-clause-left t c =
     c.loop-k.auto.k-end c.loop-k-test.false _ _ _ c.bound-in-Function-Function.ensures.left
     _ (c.in_ok-range-in-Function-Function.was ∙ ap Ok c.in-Some-4.is) c.function.new.self.words.now c.function.new.self.counts c.function.result c.function.ensures.interned)
 
+pub bound-returns-in_err-function-in-Function-Function-clause-usable : goal.bound-returns-in_err-function-in-Function-Function-clause-usable
+bound-returns-in_err-function-in-Function-Function-clause-usable t c =
+    let s = c.args.sorts.now in
+    let i = c.in-Function-Function in
+    way.err_usable _ (way.usable_kept _ _ s.counts _ _
+    (way.function_asked s.words.now s.counts c.args.up c.args.lhs c.args.rhs c.requires.asked
+    c.eq.ensures c.if-eq.false c.get.ensures c.get-2.ensures i.is-0 i.is-1 c.if-lhs_domain-rhs_domain.true
+    _ _ _ _ c.loop-k.invariant.3
+    c.loop-k.auto.k-end c.loop-k-test.false _ _ _ c.bound-in-Function-Function.ensures.left
+    _ (c.in_ok-range-in-Function-Function.was ∙ ap Ok c.in-Some-4.is)).0
+    (way.range_more s.words.now s.counts c.args.up c.args.lhs c.args.rhs c.requires.asked
+    c.eq.ensures c.if-eq.false c.get.ensures c.get-2.ensures i.is-0 i.is-1 c.if-lhs_domain-rhs_domain.true
+    _ _ _ _ c.loop-k.invariant.3
+    c.loop-k.auto.k-end c.loop-k-test.false _ _ _ c.bound-in-Function-Function.ensures.left
+    _ (c.in_ok-range-in-Function-Function.was ∙ ap Ok c.in-Some-4.is))
+    (way.at_err _ c.in_err-function-in-Function-Function.was c.function.ensures.kept))
+
 pub bound-returns-in-Primitive-Primitive-clause-left : goal.bound-returns-in-Primitive-Primitive-clause-left
 bound-returns-in-Primitive-Primitive-clause-left t c =
     let s = c.args.sorts.now in
@@ -230,6 +277,7 @@ bound-returns-in_default t c =
       same_reference = refl;
       same_index = refl;
       indexed = c.requires.indexed;
+      usable = tt;
       left = way.other s.words.now s.counts c.args.up c.args.lhs c.args.rhs c.requires.asked
           c.eq.ensures c.if-eq.false
           (λ d. say.unlike_primitive c.requires.asked.checked c.requires.asked.lhs c.requires.asked.rhs d c.get.ensures c.get-2.ensures c.in_default.is-0 c.in_default.not-Primitive-1);
@@ -242,6 +290,7 @@ bound-returns-in_default-6 t c =
       same_reference = refl;
       same_index = refl;
       indexed = c.requires.indexed;
+      usable = tt;
       left = way.other s.words.now s.counts c.args.up c.args.lhs c.args.rhs c.requires.asked
           c.eq.ensures c.if-eq.false
           (λ d. say.unlike_container c.requires.asked.checked c.requires.asked.lhs c.requires.asked.rhs d c.get.ensures c.get-2.ensures c.in_default.is-0 c.in_default.not-Container-1);
@@ -262,6 +311,7 @@ bound-returns-in_default-8 t c =
       same_reference = refl;
       same_index = refl;
       indexed = c.requires.indexed;
+      usable = tt;
       left = way.other s.words.now s.counts c.args.up c.args.lhs c.args.rhs c.requires.asked
           c.eq.ensures c.if-eq.false
           (λ d. say.unlike_function c.requires.asked.checked c.requires.asked.lhs c.requires.asked.rhs d c.get.ensures c.get-2.ensures c.in_default.is-0 c.in_default.not-Function-1);
