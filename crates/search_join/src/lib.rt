@@ -128,7 +128,7 @@ fn join_over(
 }
 
 // The join of two sorts. It does not look at nodes, whatever they are.
-// kept: beside sort_of and intern_container: one function over a closure would ask, for each of resolve, join and
+// kept: beside sort_of and container_in_search: one function over a closure would ask, for each of resolve, join and
 // generic, that the closure answers by that definition from the words and counts that it is given, whatever they are.
 fn join_of(search: &mut Search<'_>, lhs: SortId, rhs: SortId) -> Result<Option<SortId>, NoRoom>
     requires asked { Asked search.old.sorts.now search.old.lengths.sorts search.old.lengths.entries lhs.0

@@ -226,8 +226,8 @@ pub fn lit_tries(kind: LitKind, id: InferSortId) -> Tries
     }
 }
 
-// What stands at the end of a literal's place, where no search is under way.
-pub fn lit_at_end(
+// What stands at the end of a literal's place.
+pub fn lit_at(
     sorts: &[u16],
     nodes: &[u16],
     binds: &[u16],
@@ -262,8 +262,8 @@ pub fn lit_at_end(
     }
 }
 
-// What stands at the end of a literal's place.
-pub fn lit_at(search: &Search<'_>, id: InferSortId, kind: LitKind) -> LitAt
+// The same in a search.
+pub fn lit_in_search(search: &Search<'_>, id: InferSortId, kind: LitKind) -> LitAt
     requires { Ready search.now.sorts.now search.now.nodes.now search.now.binds.now search.now.lengths
         × Placed search.now.lengths id.0 }
     ensures { result
@@ -273,7 +273,7 @@ pub fn lit_at(search: &Search<'_>, id: InferSortId, kind: LitKind) -> LitAt
     let sorts = &*search.sorts;
     let nodes = &*search.nodes;
     let binds = &*search.binds;
-    lit_at_end(sorts, nodes, binds, search.lengths, id, kind)
+    lit_at(sorts, nodes, binds, search.lengths, id, kind)
 }
 
 fn lit_at_row(row: ResolvedSort, kind: LitKind) -> LitAt
@@ -305,8 +305,28 @@ fn lit_at_number(sort: Sort, kind: LitKind) -> LitAt
     }
 }
 
-// The container of a comprehension, interned. What is interned is always there afterwards.
+// The container of a comprehension, interned, with the lengths then. What is interned is always there afterwards.
 pub fn intern_container(
+    sorts: &mut [u16],
+    index: &mut [u16],
+    lengths: Lengths,
+    op: ComplexSort,
+    element: SortId,
+) -> (Result<SortId, NoRoom>, Lengths)
+    requires fine { Checked sorts.old lengths.sorts lengths.entries × (element.0 < lengths.sorts) }
+    requires indexed { Indexed sorts.old lengths.sorts index.old }
+    ensures interned { InternsContainer op element.0 sorts.old lengths sorts.new result.1 result.0 }
+    ensures indexed { OnOk result.0 (Indexed sorts.new result.1.sorts index.new) }
+{
+    let (id, counts) = generic_over(sorts, index, Counts::from(lengths), op, element);
+    match id {
+        Ok(id) => (Ok(id), lengths.with_counts(counts)),
+        Err(no_room) => (Err(no_room), lengths),
+    }
+}
+
+// The same in a search.
+pub fn container_in_search(
     search: &mut Search<'_>,
     op: ComplexSort,
     element: SortId,
@@ -368,10 +388,13 @@ fn widenings_in(
     Ok(Some(listed_tries(narrower, lhs, false)))
 }
 
-// The same over lists apart, with how much of them is in use then.
-// kept: the parts of a Search apart. Of an Arena made in `widenings_of` the lists are lost to every fact when the Search,
-// which holds a ghost fact, is written again; with its lists in locals, or in a block, no proof is generated.
-pub fn widenings_over(
+// The tries of a widening of `lhs` to `rhs` after that without one: each wider sort of `lhs` against `rhs`, nearest
+// first; or, where `lhs` has no list, `lhs` against each narrower sort of `rhs`. An empty list is a list.
+// So a concrete `lhs` is upcast, or a concrete `rhs` met from below; two free variables admit no enumeration.
+// With the tries, how much of the lists is in use then.
+// kept: the parts of a Search apart. Of an Arena made in `widenings_in_search` the lists are lost to every fact when the
+// Search, which holds a ghost fact, is written again; with its lists in locals, or in a block, no proof is generated.
+pub fn widenings_of(
     sorts: &mut [u16],
     index: &mut [u16],
     nodes: &mut [u16],
@@ -399,10 +422,8 @@ pub fn widenings_over(
     (tries, arena.lengths)
 }
 
-// The tries of a widening of `lhs` to `rhs` after that without one: each wider sort of `lhs` against `rhs`, nearest
-// first; or, where `lhs` has no list, `lhs` against each narrower sort of `rhs`. An empty list is a list.
-// So a concrete `lhs` is upcast, or a concrete `rhs` met from below; two free variables admit no enumeration.
-pub fn widenings_of(
+// The same in a search.
+pub fn widenings_in_search(
     search: &mut Search<'_>,
     lhs: InferSortId,
     rhs: InferSortId,
@@ -424,7 +445,7 @@ pub fn widenings_of(
     let index = &mut *search.index;
     let nodes = &mut *search.nodes;
     let binds = &mut *search.binds;
-    let (tries, lengths) = widenings_over(sorts, index, nodes, binds, lengths, lhs, rhs);
+    let (tries, lengths) = widenings_of(sorts, index, nodes, binds, lengths, lhs, rhs);
     search.lengths = lengths;
     tries
 }

@@ -30,8 +30,8 @@ use search_join::agreed;
 use search_leaf::{dominated, leaf};
 use search_state::{Branch, LitAt, Next, Pairs, Search, Step, Tries};
 use search_steps::{
-    give_back, intern_container, lit_at, lit_tries, push, roll_back, try_component, try_pairs,
-    unify_pairs, widenings_of,
+    container_in_search, give_back, lit_in_search, lit_tries, push, roll_back, try_component,
+    try_pairs, unify_pairs, widenings_in_search,
 };
 use unification::{Full, InferSortId};
 
@@ -244,7 +244,7 @@ fn solve_comprehension(
 {
     let mut found = false;
     for reading in READINGS {
-        let container = intern_container(search, reading.op, element)?;
+        let container = container_in_search(search, reading.op, element)?;
         let pairs = Pairs::Two(body, reading.body, node, InferSortId(container.0));
         found |= attempt(search, at, pairs, Step::Nothing, next)?;
     }
@@ -280,7 +280,7 @@ fn solve_widening(
         return Ok(true);
     }
     let kept = search.lengths;
-    let Some(t) = widenings_of(search, lhs, rhs)? else {
+    let Some(t) = widenings_in_search(search, lhs, rhs)? else {
         return Ok(false);
     };
     let found = tries(search, at, t, next)?;
@@ -309,7 +309,7 @@ fn solve_lit(
         search.new result }
     ensures indexed { IndexesOn result search.new }
 {
-    match lit_at(search, sort, kind) {
+    match lit_in_search(search, sort, kind) {
         LitAt::Number(generality) => {
             let then = push(search, at, at.trail, Step::Component(generality));
             resume(search, then, next)

@@ -134,21 +134,21 @@ pub solve_comprehension-returns-in_err-container-clause-comes : goal.solve_compr
 solve_comprehension-returns-in_err-container-clause-comes t c =
     st.passed _ _ _ _ _ _ (no_sort_room _ c.from_residual.ensures)
     (st.readings_full _ _ _ _ _ _ _ _ _ c.loop-reading.invariant.left c.loop-reading-test.true _ _
-    (re.interns_listed _ c.loop-reading-test.true _ _ _ _ _ _ _ c.intern_container.ensures.interned.0) c.intern_container.ensures.interned.1 _ c.in_err-container.was)
+    (re.interns_listed _ c.loop-reading-test.true _ _ _ _ _ _ _ c.container_in_search.ensures.interned.0) c.container_in_search.ensures.interned.1 _ c.in_err-container.was)
 
 pub solve_comprehension-attempt-requires : goal.solve_comprehension-attempt-requires
 solve_comprehension-attempt-requires t c =
-    let o = re.interns_listed _ c.loop-reading-test.true _ _ _ _ _ _ _ c.intern_container.ensures.interned.0 in (
+    let o = re.interns_listed _ c.loop-reading-test.true _ _ _ _ _ _ _ c.container_in_search.ensures.interned.0 in (
       omega (
         arith,
         c.decreases,
-        ap (λ (g : Given). work g.sizes.constraints c.args.next) (st.problem_there _ _ _ _ _ _ _ _ _ c.loop-reading.invariant.left c.loop-reading-test.true c.intern_container.new.search c.intern_container.result o
-            c.intern_container.ensures.interned.1),
+        ap (λ (g : Given). work g.sizes.constraints c.args.next) (st.problem_there _ _ _ _ _ _ _ _ _ c.loop-reading.invariant.left c.loop-reading-test.true c.container_in_search.new.search c.container_in_search.result o
+            c.container_in_search.ensures.interned.1),
       ),
       (
         (
-          st.reading_asked _ _ _ _ _ _ _ _ _ c.loop-reading.invariant.left c.loop-reading-test.true c.intern_container.new.search c.intern_container.result o c.intern_container.ensures.interned.1 _ c.in_ok-container.was,
-          st.reading_placed _ _ _ _ _ _ _ _ _ c.loop-reading.invariant.left c.loop-reading-test.true c.intern_container.new.search c.intern_container.result o c.intern_container.ensures.interned.1 _ c.in_ok-container.was _
+          st.reading_asked _ _ _ _ _ _ _ _ _ c.loop-reading.invariant.left c.loop-reading-test.true c.container_in_search.new.search c.container_in_search.result o c.container_in_search.ensures.interned.1 _ c.in_ok-container.was,
+          st.reading_placed _ _ _ _ _ _ _ _ _ c.loop-reading.invariant.left c.loop-reading-test.true c.container_in_search.new.search c.container_in_search.result o c.container_in_search.ensures.interned.1 _ c.in_ok-container.was _
               (re.body_listed _ c.loop-reading-test.true _),
         ),
         c.in_ok-container.ensures.indexed,
@@ -159,14 +159,14 @@ pub solve_comprehension-returns-in_err-found-clause-comes : goal.solve_comprehen
 solve_comprehension-returns-in_err-found-clause-comes t c =
     st.passed _ _ _ _ _ _ (same_error _ _ c.from_residual-in_err-found.ensures ∙ sym c.in_err-found.was)
     (st.readings_ended _ _ _ _ _ _ _ _ _ c.loop-reading.invariant.left c.loop-reading-test.true _ _
-    (re.interns_listed _ c.loop-reading-test.true _ _ _ _ _ _ _ c.intern_container.ensures.interned.0) c.intern_container.ensures.interned.1 _ c.in_ok-container.was _ (re.body_listed _ c.loop-reading-test.true _) _ _
+    (re.interns_listed _ c.loop-reading-test.true _ _ _ _ _ _ _ c.container_in_search.ensures.interned.0) c.container_in_search.ensures.interned.1 _ c.in_ok-container.was _ (re.body_listed _ c.loop-reading-test.true _) _ _
     c.attempt.ensures.comes _ c.in_err-found.was)
 
 pub solve_comprehension-loop-reading-preserved : goal.solve_comprehension-loop-reading-preserved
 solve_comprehension-loop-reading-preserved t c =
     record {
       left = st.readings_more _ _ _ _ _ _ _ _ _ c.loop-reading.invariant.left c.loop-reading-test.true _ _
-          (re.interns_listed _ c.loop-reading-test.true _ _ _ _ _ _ _ c.intern_container.ensures.interned.0) c.intern_container.ensures.interned.1 _ c.in_ok-container.was _ (re.body_listed _ c.loop-reading-test.true _) _ _
+          (re.interns_listed _ c.loop-reading-test.true _ _ _ _ _ _ _ c.container_in_search.ensures.interned.0) c.container_in_search.ensures.interned.1 _ c.in_ok-container.was _ (re.body_listed _ c.loop-reading-test.true _) _ _
           c.attempt.ensures.comes _ c.in_ok-found.was;
       indexed = c.in_ok-found.ensures.indexed;
     }
@@ -417,7 +417,7 @@ pub solve_lit-tries-requires : goal.solve_lit-tries-requires
 solve_lit-tries-requires t c = (
   omega (arith, c.decreases),
   (
-    (c.requires.searching.0, li.lit_fine _ _ _ _ _ _ _ _ _ _ _ c.requires.searching.0 c.requires.searching.1 _ c.lit_at.ensures _ c.lit_tries.ensures),
+    (c.requires.searching.0, li.lit_fine _ _ _ _ _ _ _ _ _ _ _ c.requires.searching.0 c.requires.searching.1 _ c.lit_in_search.ensures _ c.lit_tries.ensures),
     c.requires.indexed,
   ),
 )
@@ -428,7 +428,7 @@ solve_lit-returns-in-Number-clause-comes t c =
     record {
       problem = c.resume.ensures.comes.problem ∙ ap (λ (l : Lists). l.given) p.2.0;
       comes =
-          li.lit_number _ _ _ _ _ _ _ _ _ _ _ c.requires.searching.0 c.requires.searching.1 _ c.lit_at.ensures _ c.in-Number.is _ _ p.0 p.1 _ _ _ _ _
+          li.lit_number _ _ _ _ _ _ _ _ _ _ _ c.requires.searching.0 c.requires.searching.1 _ c.lit_in_search.ensures _ c.in-Number.is _ _ p.0 p.1 _ _ _ _ _
           (rw p.2.1 at (comes_bound c.args.search.now c.push-then.new.search c.push-then.result p.2.0 _ _ _ c.resume.ensures.comes));
     }
 
@@ -437,12 +437,12 @@ solve_lit-returns-in-Free-clause-comes t c =
     record {
       problem = c.tries.ensures.comes.problem;
       comes =
-          li.lit_free _ _ _ _ _ _ _ _ _ _ _ c.requires.searching.0 c.requires.searching.1 _ c.lit_at.ensures _ c.lit_tries.ensures c.in-Free.is _ _ _ _ _ c.tries.ensures.comes.comes;
+          li.lit_free _ _ _ _ _ _ _ _ _ _ _ c.requires.searching.0 c.requires.searching.1 _ c.lit_in_search.ensures _ c.lit_tries.ensures c.in-Free.is _ _ _ _ _ c.tries.ensures.comes.comes;
     }
 
 pub solve_lit-returns-in-Other-clause-comes : goal.solve_lit-returns-in-Other-clause-comes
 solve_lit-returns-in-Other-clause-comes t c =
-    record { problem = refl; comes = li.lit_other _ _ _ _ _ _ _ _ _ _ _ c.requires.searching.0 c.requires.searching.1 _ c.lit_at.ensures c.in-Other.is }
+    record { problem = refl; comes = li.lit_other _ _ _ _ _ _ _ _ _ _ _ c.requires.searching.0 c.requires.searching.1 _ c.lit_in_search.ensures c.in-Other.is }
 
 -- `solve_widening`: equal first, then the wider or narrower sorts in turn; the nodes made are given back.
 pub solve_widening-returns-in_err-attempt-clause-comes : goal.solve_widening-returns-in_err-attempt-clause-comes
@@ -468,8 +468,8 @@ solve_widening-returns-then-branch-clause-comes t c =
           c.attempt.ensures.comes.comes (found_not_missed (state_of u) c.attempt.result f);
     })
 
-pub solve_widening-widenings_of-requires-clause-ready : goal.solve_widening-widenings_of-requires-clause-ready
-solve_widening-widenings_of-requires-clause-ready t c =
+pub solve_widening-widenings_in_search-requires-clause-ready : goal.solve_widening-widenings_in_search-requires-clause-ready
+solve_widening-widenings_in_search-requires-clause-ready t c =
     let u = c.attempt.new.search in
     let m = ap (answer_of (state_of u)) (c.in_ok-attempt.was ∙ ap Ok c.if-branch.false) in
     let a = wi.asked_again _ _ _ _ _ _ _ _ _ _ _ c.requires.searching.0 u.sorts.now u.nodes.now u.binds.now u.scratch.now (answer_of (state_of u) c.attempt.result)
@@ -485,7 +485,7 @@ solve_widening-widenings_of-requires-clause-ready t c =
 pub solve_widening-returns-in_err-t-clause-comes : goal.solve_widening-returns-in_err-t-clause-comes
 solve_widening-returns-in_err-t-clause-comes t c =
     let u = c.attempt.new.search in
-    let w = c.widenings_of.ensures.finds in
+    let w = c.widenings_in_search.ensures.finds in
     let p = w.1 in
     let m = ap (answer_of (state_of u)) (c.in_ok-attempt.was ∙ ap Ok c.if-branch.false) in
     let a = wi.asked_again _ _ _ _ _ _ _ _ _ _ _ c.requires.searching.0 u.sorts.now u.nodes.now u.binds.now u.scratch.now (answer_of (state_of u) c.attempt.result)
@@ -501,13 +501,13 @@ solve_widening-returns-in_err-t-clause-comes t c =
           c.attempt.ensures.comes.comes (state_of u) m _ c.requires.searching.1)
           (wi.still_there _ _ _ _ _ _ _ _ _ _ _ c.requires.searching.0 u.sorts.now u.nodes.now u.binds.now u.scratch.now (answer_of (state_of u) c.attempt.result)
           c.attempt.ensures.comes.comes (state_of u) m _ c.requires.searching.2)
-          _ _ _ c.widenings_of.result w.0 _ c.in_err-t.was));
+          _ _ _ c.widenings_in_search.result w.0 _ c.in_err-t.was));
     }
 
 pub solve_widening-returns-in_default-clause-comes : goal.solve_widening-returns-in_default-clause-comes
 solve_widening-returns-in_default-clause-comes t c =
     let u = c.attempt.new.search in
-    let w = c.widenings_of.ensures.finds in
+    let w = c.widenings_in_search.ensures.finds in
     let p = w.1 in
     let m = ap (answer_of (state_of u)) (c.in_ok-attempt.was ∙ ap Ok c.if-branch.false) in
     let a = wi.asked_again _ _ _ _ _ _ _ _ _ _ _ c.requires.searching.0 u.sorts.now u.nodes.now u.binds.now u.scratch.now (answer_of (state_of u) c.attempt.result)
@@ -523,16 +523,16 @@ solve_widening-returns-in_default-clause-comes t c =
           c.attempt.ensures.comes.comes (state_of u) m _ c.requires.searching.1)
           (wi.still_there _ _ _ _ _ _ _ _ _ _ _ c.requires.searching.0 u.sorts.now u.nodes.now u.binds.now u.scratch.now (answer_of (state_of u) c.attempt.result)
           c.attempt.ensures.comes.comes (state_of u) m _ c.requires.searching.2)
-          _ _ _ c.widenings_of.result w.0 (c.in_ok-t.was ∙ ap Ok (not_some _ c.in_default.not-Some)) _
-          (state_kept u c.widenings_of.new.search c.args.at p)));
+          _ _ _ c.widenings_in_search.result w.0 (c.in_ok-t.was ∙ ap Ok (not_some _ c.in_default.not-Some)) _
+          (state_kept u c.widenings_in_search.new.search c.args.at p)));
     }
 
 pub solve_widening-tries-requires : goal.solve_widening-tries-requires
 solve_widening-tries-requires t c =
     let s = c.args.search.now in
     let u = c.attempt.new.search in
-    let v = c.widenings_of.new.search in
-    let w = c.widenings_of.ensures.finds in
+    let v = c.widenings_in_search.new.search in
+    let w = c.widenings_in_search.ensures.finds in
     let p = w.1 in
     let g = ap (λ (k : Kept). k.given) p ∙ c.attempt.ensures.comes.problem in
     let m = ap (answer_of (state_of u)) (c.in_ok-attempt.was ∙ ap Ok c.if-branch.false) in
@@ -547,9 +547,9 @@ solve_widening-tries-requires t c =
       (
         (
           asked_on s v c.args.at g _ _ _
-              (rw (w.2, ap (λ (k : Kept). k.binds) p) (wi.tries_asked _ _ _ _ _ _ _ _ _ _ _ a l r _ _ _ c.widenings_of.result w.0 _ i _
+              (rw (w.2, ap (λ (k : Kept). k.binds) p) (wi.tries_asked _ _ _ _ _ _ _ _ _ _ _ a l r _ _ _ c.widenings_in_search.result w.0 _ i _
               (state_kept u v c.args.at p))),
-          wi.tries_fine_here _ _ _ _ _ _ _ _ _ _ _ a l r _ _ _ c.widenings_of.result w.0 _ i _ (state_kept u v c.args.at p),
+          wi.tries_fine_here _ _ _ _ _ _ _ _ _ _ _ a l r _ _ _ c.widenings_in_search.result w.0 _ i _ (state_kept u v c.args.at p),
         ),
         c.in_ok-t.ensures.indexed,
       ),
@@ -559,9 +559,9 @@ pub solve_widening-returns-in_err-found-clause-comes : goal.solve_widening-retur
 solve_widening-returns-in_err-found-clause-comes t c =
     let s = c.args.search.now in
     let u = c.attempt.new.search in
-    let v = c.widenings_of.new.search in
+    let v = c.widenings_in_search.new.search in
     let x = c.tries.new.search in
-    let w = c.widenings_of.ensures.finds in
+    let w = c.widenings_in_search.ensures.finds in
     let p = w.1 in
     let g = ap (λ (k : Kept). k.given) p ∙ c.attempt.ensures.comes.problem in
     let m = ap (answer_of (state_of u)) (c.in_ok-attempt.was ∙ ap Ok c.if-branch.false) in
@@ -577,7 +577,7 @@ solve_widening-returns-in_err-found-clause-comes t c =
       comes =
           wi.widen_on _ _ _ _ _ _ _ _ _ _ _ c.requires.searching.0 u.sorts.now u.nodes.now u.binds.now u.scratch.now (answer_of (state_of u) c.attempt.result)
           c.attempt.ensures.comes.comes (state_of u) m _ _ _ _ _
-          (wi.widen_tries _ _ _ _ _ _ _ _ _ _ _ a l r _ _ _ c.widenings_of.result w.0 _ i _ (state_kept u v c.args.at p)
+          (wi.widen_tries _ _ _ _ _ _ _ _ _ _ _ a l r _ _ _ c.widenings_in_search.result w.0 _ i _ (state_kept u v c.args.at p)
           x.sorts.now x.nodes.now x.binds.now x.scratch.now (answer_of (state_of x) c.tries.result)
           (rw (w.2, ap (λ (k : Kept). k.binds) p) at (comes_on s v c.args.at g _ _ _ c.tries.ensures.comes)) _
           (ap (answer_of (state_of x)) (same_error _ _ c.from_residual-in_err-found.ensures)
@@ -588,9 +588,9 @@ pub solve_widening-returns-clause-comes : goal.solve_widening-returns-clause-com
 solve_widening-returns-clause-comes t c =
     let s = c.args.search.now in
     let u = c.attempt.new.search in
-    let v = c.widenings_of.new.search in
+    let v = c.widenings_in_search.new.search in
     let x = c.tries.new.search in
-    let w = c.widenings_of.ensures.finds in
+    let w = c.widenings_in_search.ensures.finds in
     let p = w.1 in
     let g = ap (λ (k : Kept). k.given) p ∙ c.attempt.ensures.comes.problem in
     let m = ap (answer_of (state_of u)) (c.in_ok-attempt.was ∙ ap Ok c.if-branch.false) in
@@ -606,7 +606,7 @@ solve_widening-returns-clause-comes t c =
       comes =
           wi.widen_on _ _ _ _ _ _ _ _ _ _ _ c.requires.searching.0 u.sorts.now u.nodes.now u.binds.now u.scratch.now (answer_of (state_of u) c.attempt.result)
           c.attempt.ensures.comes.comes (state_of u) m _ _ _ _ _
-          (wi.widen_tries _ _ _ _ _ _ _ _ _ _ _ a l r _ _ _ c.widenings_of.result w.0 _ i _ (state_kept u v c.args.at p)
+          (wi.widen_tries _ _ _ _ _ _ _ _ _ _ _ a l r _ _ _ c.widenings_in_search.result w.0 _ i _ (state_kept u v c.args.at p)
           x.sorts.now x.nodes.now x.binds.now x.scratch.now (answer_of (state_of x) c.tries.result)
           (rw (w.2, ap (λ (k : Kept). k.binds) p) at (comes_on s v c.args.at g _ _ _ c.tries.ensures.comes)) _
           (st.returned (state_of x) u.lengths _ c.give_back-search.ensures _ _ c.in_ok-found.was));

@@ -5,7 +5,7 @@ use Rattle.unification.specs.Nodes.{node_at}
 use Rattle.infer_nodes.proofs.Apart as apart
 use Rattle.infer_nodes.proofs.Passing.{pass_of}
 use Rattle.search_steps.proofs.Literals as literal
-use Rattle.search_steps.proofs.lit_at_end.Goals as goal
+use Rattle.search_steps.proofs.lit_at.Goals as goal
 
 pub invariant_of-bindings : goal.invariant_of-bindings
 invariant_of-bindings c = record { passed = pass_of _ _ _ _ c.requires.0 }
