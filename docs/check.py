@@ -18,6 +18,11 @@ SKIPPED = {".git", "target", "out"}
 # Parts of paths that every crate has, and paths that a build writes.
 GENERIC = re.compile(r"(src|specs|proofs|must-fail)(/(Inner/?|lib\.rt)?)?|(\.\./)?target/.*|.*/target/release|crate/.*|crates/crate/.*")
 FILE = r"`([\w/]+\.(?:antt|rt))`"
+# How a line begins that declares a name: an item of code, and a definition, a law, a field or a case. An import is none.
+DECLARES = {
+    ".rt": r"^\s*(?:pub(?:\(\w+\))? )?(?:(?:unsafe|const|final|extern \"C\") )*(?:fn|struct|enum|trait|type|const|mod|ghost) {}(?![\w\-])",
+    ".antt": r"^\s*(?:(?:pub|abbrev|unfoldable|record|data|module) )*{}(?![\w\-])[^=\n]*:",
+}
 
 wrong = []
 
@@ -56,7 +61,8 @@ def paths(file, number, line, names):
 
 def declared(name, path):
     text = open(path, encoding="utf-8").read()
-    return re.search(r"(?<![\w\-·])" + re.escape(name) + r"(?![\w\-])", text) is not None
+    begins = DECLARES[os.path.splitext(path)[1]].replace("{}", re.escape(name))
+    return re.search(begins, text, re.MULTILINE) is not None
 
 
 def held(file, number, line):

@@ -12,7 +12,7 @@ ghost use Rattle.search_state.specs.Inner.Solving.{Searching, SameProblem, Index
 ghost use Rattle.solve_outputs.specs.Inner.Begin.{nothing_taken};
 ghost use Rattle.solve_checks.specs.Call.{call_of};
 ghost use Rattle.solve_outputs.specs.Handout.{call_with, solve_left_with, SameHandout};
-ghost use Rattle.solve_outputs.specs.Inner.Finish.{solve_left_by, SortsReturnable, NodesReturnable};
+ghost use Rattle.solve_outputs.specs.Inner.Finish.{solve_left_by};
 ghost use Rattle.solve_outputs.specs.Inner.Handing.{names_read, left_in, CanHandOut};
 ghost use Rattle.solve_outputs.specs.Packed.{packed_solve, pack_solve_left};
 ghost use Rattle.solve_entries.specs.Given.{given_of};

@@ -2,18 +2,18 @@
 // scratch; what it clears, answers and leaves.
 #![tactic(auto)]
 
-ghost use Rattle.std.specs.Prelude.{◌≡◌, [], ◌+◌, ◌*◌, ◌≤◌, length, drop, true, false, Ok};
+ghost use Rattle.std.specs.Prelude.{◌≡◌, [], ◌+◌, ◌*◌, ◌≤◌, length, drop, true, Ok};
 ghost use Rattle.std.proofs.Math.Option.{some};
 ghost use Rattle.std.proofs.lemmas.List.Edits.{sets};
 ghost use Rattle.unification.specs.Nodes.{max_nodes, max_node_entries, full_nodes};
-ghost use Rattle.inference.specs.Constraints.{max_constraints, max_components, name_words, overload_at, base_name_at};
+ghost use Rattle.inference.specs.Constraints.{max_constraints, max_components, name_words, overload_at};
 ghost use Rattle.inference.specs.Constraints.{rows_from};
 ghost use Rattle.inference.specs.Names.{overload_in, name_kind, name_sort};
 ghost use Rattle.inference.specs.SolveChecks.{typing_words, choice_words, disjunction_for, no_two};
 ghost use Rattle.inference.specs.Rising.{rising};
 ghost use Rattle.inference.specs.SolveEntry.{nodes_given_back, typing_rows, choice_rows, written_over};
 ghost use Rattle.search_state.specs.Inner.Memory.{overloads_at, problem_in, rest_from, chosen_exprs};
-ghost use Rattle.search_state.specs.Inner.Memory.{best_sorts_at, best_measure_at, choices_kept, candidate_of};
+ghost use Rattle.search_state.specs.Inner.Memory.{best_sorts_at, best_measure_at, choices_kept};
 ghost use Rattle.search_state.specs.Inner.Searching.{Sized};
 ghost use Rattle.search_state.specs.Inner.Solving.{OnlySorts, SameProblem};
 ghost use Rattle.words.specs.Words.{part};
@@ -44,7 +44,7 @@ use search_state::{
 use solve_checks::{Given, Problem, components, disjunction_count};
 use sort_interner::{clear_index, clear_past, give_back};
 use unification::{Full, Lengths, NODE_ENTRIES_AT};
-use words::{BIT_8, BIT_24, BIT_40, BIT_52, clear, copy, put, word};
+use words::{BIT_8, BIT_24, BIT_40, BIT_52, copy, put, word};
 
 // What a call hands out: the rows of its expressions, the measure, and the rows of its choices.
 #[derive(Drop)]

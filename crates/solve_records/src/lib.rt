@@ -2,7 +2,7 @@
 // into words; the functions that meet a slice of records are few.
 #![tactic(auto)]
 
-ghost use Rattle.std.specs.Prelude.{◌≡◌, ◌<◌, ◌*◌, ◌+◌, ◌^◌, min, length, take};
+ghost use Rattle.std.specs.Prelude.{◌≡◌, ◌<◌, ◌*◌, ◌+◌, ◌^◌, min, take};
 ghost use Rattle.std.proofs.lemmas.List.Edits.{sets};
 ghost use Rattle.inference.specs.Constraints.{max_overloads, overload_words};
 ghost use Rattle.inference.specs.SolveEntry.{solve_entry};
