@@ -5,14 +5,16 @@ use mathlib.Core.Bool.{Bool}
 use mathlib.Core.List.{List, []}
 use Prim.Native.Nat.{ℕ, ◌*◌, ◌≤◌}
 use lib.ListN.{length, replicate, length-replicate}
-use Rattle.std.specs.Prelude.{Result, Ok, Err}
+use Rattle.std.specs.Prelude.{Result, Ok, Err, IsErrAnd}
 use Rattle.resolved_sort.specs.declared.Refusal.{Refusal}
 use Rattle.resolved_sort.specs.Checks.{Tested, first_failing}
 use Rattle.resolved_sort.specs.Storage.{max_sorts}
 use Rattle.resolved_sort.specs.Index.{slots}
 use Rattle.unification.specs.declared.Full.{Full}
 use Rattle.unification.specs.declared.Lengths.{Lengths}
+use Rattle.unification.specs.Full.{refusal_of}
 use Rattle.unification.specs.Nodes.{binds_of}
+use Rattle.inference.specs.declared.Verdict.{Verdict}
 use Rattle.inference.specs.Constraints.{name_words, BaseName, base_name_at, rows_from}
 use Rattle.inference.specs.SolveChecks.{Call, solve_checks}
 use Rattle.words.specs.Words.{cleared}
@@ -33,11 +35,12 @@ use Rattle.solve_outputs.specs.Handout.{call_with, solve_left_with}
 use Rattle.solve_outputs.specs.Inner.Begin.{CountsFit, RowsFit, sizes_of, no_incumbent, nothing_taken}
 use Rattle.solve_outputs.specs.Finish.{solve_left}
 use Rattle.solve_outputs.specs.Inner.Finish.{Settled, solve_left_by, settled_by, Handable}
-use Rattle.solve_outputs.specs.Inner.Handing.{settling}
+use Rattle.solve_outputs.specs.Inner.Handing.{told_as, settling, settling_as}
 use Rattle.solve_outputs.specs.Packed.{SolvedWithin}
 use Rattle.solve_outputs.proofs.Codes.{entry_told}
 use Rattle.solve_outputs.proofs.Passed.{counts_fit, rows_fit, packable, packed_problem, names_whole, begins, handable, passed_outputs}
 use Rattle.solve_outputs.proofs.Finished.{left_by_search, left_is_outcome}
+use Rattle.solve_outputs.proofs.Finishing.{told_as_refusal}
 use Rattle.solve_entries.specs.Inner.Searched.{comes_to, settled_from}
 
 -- What is left of the index depends on its length alone: as many zeros. How long it is the search does not say; that its words are lent
@@ -53,6 +56,15 @@ by_its_index : (k : Lengths) (ns bs sc ix : List ℕ) (S : Settled) (L : SolveLe
     → L ≡ solve_left_by k ns bs sc ix S → L ≡ solve_left_by k ns bs sc L.index S
 by_its_index k ns bs sc ix S L q =
     same_length k ns bs sc ix L.index S L (sym (ap (λ (M : SolveLeft). length M.index) q ∙ length-replicate (length ix) 0)) q
+
+-- What ended, as `?` tells it as a refusal.
+module _ (x : Result Verdict Full) where
+  pub verdict_told : (v : Verdict) → x ≡ Ok v → Ok v ≡ told_as refusal_of x
+  verdict_told v q = sym (ap (told_as refusal_of) q)
+
+  pub ending_told : (full : Full) → x ≡ Err full → (y : Solved) → IsErrAnd y (λ c. c ≡ refusal_of full) → y ≡ told_as refusal_of x
+  ending_told full q (Ok v) h = absurd h
+  ending_told full q (Err c) h = ap Err h ∙ sym (ap (told_as refusal_of) q)
 
 -- The search from nothing, and what comes after it.
 module _ (s : Search) (S : Searching s nothing_taken 0 [] (Solve 0)) (e : Branch) (p : e ≡ nothing_taken) where
@@ -76,6 +88,16 @@ module _ (s : Search) (S : Searching s nothing_taken 0 [] (Solve 0)) (e : Branch
         ∙ ap (λ (g : GivenTo). solve_left_by s.lengths u.nodes.now u.binds.now u.scratch.now L.index
         (settled_by (problem_in g.lists g.sizes) names h.typing.now h.measure.now h.choices.now s.lengths
         (out_of g.lists g.sizes u.sorts.now u.nodes.now u.scratch.now (answer_of (state_of u) r)))) d.problem)
+
+    pub search_told : (names : List BaseName) (h : Handout) (x y : Solved) → y ≡ x → (ws ns bs sc ix ts ms hs : List ℕ)
+        → solve_left x ws ns bs sc ix ts ms hs
+        ≡ solve_left_by s.lengths u.nodes.now u.binds.now u.scratch.now u.index.now (settling_as refusal_of u names h s.lengths r)
+        → solve_left y ws ns bs sc ix ts ms hs
+        ≡ solve_left_by s.lengths s.nodes.now s.binds.now s.scratch.now ix (settled_from s names h)
+    search_told names h x y e ws ns bs sc ix ts ms hs q =
+        search_left names h (solve_left y ws ns bs sc ix ts ms hs)
+        (ap (λ (a : Solved). solve_left a ws ns bs sc ix ts ms hs) e
+        ∙ (q ∙ ap (solve_left_by s.lengths u.nodes.now u.binds.now u.scratch.now u.index.now) (told_as_refusal u names h s.lengths r)))
 
 -- A call.
 module _ (p : Problem) (ws ns bs sc ix : List ℕ) (h : Handout) where

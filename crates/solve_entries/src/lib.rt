@@ -43,7 +43,7 @@ fn run(
 {
     let entry = search.lengths;
     let found = solver::solve(search, nothing_taken(), 0);
-    finish(search, handout, names, entry, found)
+    Ok(finish(search, handout, names, entry, found)?)
 }
 
 // Solve on a problem that passed its checks.

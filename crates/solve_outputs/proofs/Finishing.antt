@@ -32,7 +32,7 @@ use Rattle.solve_outputs.specs.Inner.Begin.{sizes_of}
 use Rattle.solve_outputs.proofs.Choosing.{choices_as_counted}
 use Rattle.solve_outputs.specs.declared.Handout.{Handout}
 use Rattle.solve_outputs.specs.Inner.Finish.{Answered, answered, settled, handed_out, Handable}
-use Rattle.solve_outputs.specs.Inner.Handing.{counts_then, told_in, handing, judging, settling}
+use Rattle.solve_outputs.specs.Inner.Handing.{counts_then, told_in, handing, judging, settling, settling_as}
 
 pub sizes_counted : (p : Problem) (n d : ℕ) → n ≡ components (constraint_rows p.constraints.now p.given.constraints)
     → d ≡ length (disjunctions (constraint_rows p.constraints.now p.given.constraints))
@@ -95,14 +95,20 @@ module _ (s : Search) (names : List BaseName) (h : Handout) (k : Counts) (e : k 
   unfolding best_of candidate_of handed_out
   not_tied i b t a q = q ∙ rw (b, t) refl
 
--- by the answer of the search
-module _ (s : Search) (names : List BaseName) (h : Handout) (k : Lengths) (r : Result Bool Full) where
+-- by the answer of the search, with what ended told in any way
+module _ {E : Type 0} (told : E → Refusal) (s : Search) (names : List BaseName) (h : Handout) (k : Lengths) (r : Result Bool E) where
+  pub room_ended : (e : E) → r ≡ Err e → (us : List ℕ) → us ≡ given_back k.sorts k.entries s.sorts.now
+      → settled us (told_in (Err (told e)) h) ≡ settling_as told s names h k r
+  room_ended e q us g = (λ i. settled (g i) (told_in (Err (told e)) h)) ∙ sym (ap (settling_as told s names h k) q)
+
+-- what ended, told as the refusal that it is
+module _ (s : Search) (names : List BaseName) (h : Handout) (k : Lengths) where
   refused_so : (full : Full) → refusal_of full ≡ room_refusal (code_of full)
   unfolding room_refusal
   refused_so Sorts = refl
   refused_so Nodes = refl
 
-  pub room_ended : (full : Full) → r ≡ Err full → (c : Refusal) → c ≡ refusal_of full
-      → (us : List ℕ) → us ≡ given_back k.sorts k.entries s.sorts.now → settled us (told_in (Err c) h) ≡ settling s names h k r
-  room_ended full e c q us g =
-      (λ i. settled (g i) (told_in (Err ((q ∙ refused_so full) i)) h)) ∙ sym (ap (settling s names h k) e)
+  pub told_as_refusal : (r : Result Bool Full) → settling_as refusal_of s names h k r ≡ settling s names h k r
+  told_as_refusal (Ok found) = refl
+  told_as_refusal (Err full) =
+      ap (λ c. settled (given_back k.sorts k.entries s.sorts.now) (told_in (Err c) h)) (refused_so full)

@@ -2,7 +2,8 @@
 // scratch; what it clears, answers and leaves.
 #![tactic(auto)]
 
-ghost use Rattle.std.specs.Prelude.{◌≡◌, [], ◌+◌, ◌*◌, ◌≤◌, length, drop, true, Ok};
+ghost use Rattle.std.specs.Prelude.{◌≡◌, [], ◌+◌, ◌*◌, ◌≤◌, length, drop, true, Ok, Err, IfErr};
+ghost use Rattle.resolved_sort.specs.declared.Refusal.{Refusal};
 ghost use Rattle.std.proofs.Math.Option.{some};
 ghost use Rattle.std.proofs.lemmas.List.Edits.{sets};
 ghost use Rattle.unification.specs.Nodes.{max_nodes, max_node_entries, full_nodes};
@@ -27,8 +28,8 @@ ghost use Rattle.solve_outputs.specs.Inner.Begin.{CountsFit, RowsFit, sizes_of, 
 ghost use Rattle.solve_outputs.specs.Packed.{pack_solved, CountsWithin, VerdictWithin, SolvedWithin};
 ghost use Rattle.solve_outputs.specs.Inner.Counts.{pack_counts};
 ghost use Rattle.solve_outputs.specs.Inner.Finish.{solve_left_by, settled, SortsReturnable, NodesReturnable};
-ghost use Rattle.solve_outputs.specs.Inner.Handing.{names_read, told_in, left_in, handing, judging, settling, Tidied};
-ghost use Rattle.solve_outputs.specs.Inner.Handing.{CanHandOut};
+ghost use Rattle.solve_outputs.specs.Inner.Handing.{names_read, told_in, left_in, handing, judging, Tidied};
+ghost use Rattle.solve_outputs.specs.Inner.Handing.{told_as, settling_as, CanHandOut};
 ghost use Rattle.solve_outputs.specs.Handout.{SameHandout};
 
 use entry_answers::pack;
@@ -43,7 +44,7 @@ use search_state::{
 };
 use solve_checks::{Given, Problem, components, disjunction_count};
 use sort_interner::{clear_index, clear_past, give_back};
-use unification::{Full, Lengths, NODE_ENTRIES_AT};
+use unification::{Lengths, NODE_ENTRIES_AT};
 use words::{BIT_8, BIT_24, BIT_40, BIT_52, copy, put, word};
 
 // What a call hands out: the rows of its expressions, the measure, and the rows of its choices.
@@ -359,17 +360,19 @@ fn judge(handout: &mut Handout<'_>, search: &Search<'_>, names: &BaseNames<'_>) 
     Verdict::Typing(hand_out(handout, search, names))
 }
 
-// The answer after the search; where room ended, sorts made are given back to the counts at entry.
-fn settle(
+// The answer after the search; where room ended, sorts made are given back to the counts at entry, and what ended is
+// handed on, whatever it is.
+fn settle<E>(
     search: &mut Search<'_>,
     handout: &mut Handout<'_>,
     names: &BaseNames<'_>,
     entry: Lengths,
-    found: Result<bool, Full>,
-) -> Result<Verdict, Refusal>
+    found: Result<bool, E>,
+) -> Result<Verdict, E>
     requires { CanHandOut search.old handout.old × SortsReturnable search.old.sorts.now entry }
-    ensures says { settled search.new.sorts.now (told_in result handout.new)
-        ≡ settling search.old (names_read names.now.words.now names.now.count) handout.old entry found }
+    ensures says { (told : E → Refusal) → settled search.new.sorts.now (told_in (told_as told result) handout.new)
+        ≡ settling_as told search.old (names_read names.now.words.now names.now.count) handout.old entry found }
+    ensures ended { IfErr found (λ e. result ≡ Err e) }
     ensures kept { OnlySorts search.old search.new }
     ensures index_stays { search.new.index ≡ search.old.index }
     ensures same_reference { SameHandout handout.old handout.new }
@@ -378,7 +381,7 @@ fn settle(
         Ok(_) => Ok(judge(handout, search, names)),
         Err(full) => {
             give_back(search.sorts, entry.sorts as usize, entry.entries as usize);
-            Err(full.into())
+            Err(full)
         }
     }
 }
@@ -393,21 +396,23 @@ fn tidy(search: &mut Search<'_>, entry: Lengths)
     clear_index(search.index);
 }
 
-// What the entry answers and leaves after the search, of a call that began with so much of its lists.
-pub fn finish(
+// What the entry answers and leaves after the search, of a call that began with so much of its lists. What ended in
+// the search, whatever it is, is the answer's error.
+pub fn finish<E>(
     search: &mut Search<'_>,
     handout: &mut Handout<'_>,
     names: &BaseNames<'_>,
     entry: Lengths,
-    found: Result<bool, Full>,
-) -> Result<Verdict, Refusal>
+    found: Result<bool, E>,
+) -> Result<Verdict, E>
     requires { CanHandOut search.old handout.old
         × SortsReturnable search.old.sorts.now entry
         × NodesReturnable search.old.nodes.now entry }
-    ensures says { left_in result search.new handout.new
+    ensures says { (told : E → Refusal) → left_in (told_as told result) search.new handout.new
         ≡ solve_left_by entry search.old.nodes.now search.old.binds.now search.old.scratch.now
         search.old.index.now
-        (settling search.old (names_read names.now.words.now names.now.count) handout.old entry found) }
+        (settling_as told search.old (names_read names.now.words.now names.now.count) handout.old entry found) }
+    ensures ended { IfErr found (λ e. result ≡ Err e) }
     ensures same_problem { SameProblem search.old search.new }
     ensures same_handout { SameHandout handout.old handout.new }
 {

@@ -1,7 +1,9 @@
 -- What a search has come to, with the base names of its call and what is handed out, as the code holds them.
-use Rattle.std.specs.Prelude.{◌≡◌, Bool, false, List, ℕ, Result}
+use Rattle.std.specs.Prelude.{◌≡◌, Bool, false, List, ℕ, Result, Ok, Err}
 use Rattle.std.proofs.Math.Option.{Option}
 use Rattle.resolved_sort.specs.declared.Counts.{Counts}
+use Rattle.resolved_sort.specs.declared.Refusal.{Refusal}
+use Rattle.resolved_sort.specs.Storage.{given_back}
 use Rattle.unification.specs.declared.Full.{Full}
 use Rattle.unification.specs.declared.Lengths.{Lengths}
 use Rattle.inference.specs.Constraints.{BaseName, base_name_at, rows_from, Problem}
@@ -13,7 +15,8 @@ use Rattle.search_state.specs.Inner.Memory.{problem_in, candidate_of, best_of, o
 use Rattle.search_state.specs.Inner.Solving.{has_best, is_tied, state_of, answer_of}
 use Rattle.solve_outputs.specs.declared.Handout.{Handout}
 use Rattle.solve_outputs.specs.Handout.{solve_left_with}
-use Rattle.solve_outputs.specs.Inner.Finish.{Answered, answered, Settled, handed_out, judged_out, settled_by, Handable}
+use Rattle.solve_outputs.specs.Inner.Finish.{Answered, answered, Settled, settled, handed_out, judged_out, settled_by}
+use Rattle.solve_outputs.specs.Inner.Finish.{Handable}
 
 abbrev pub names_read : List ℕ → ℕ → List BaseName
 names_read ks n = rows_from (base_name_at ks) 0 n
@@ -52,6 +55,16 @@ judging s names h =
 abbrev pub settling : Search → List BaseName → Handout → Lengths → Result Bool Full → Settled
 settling s names h k r =
     settled_by (problem_asked s) names h.typing.now h.measure.now h.choices.now k (out_in s r)
+
+-- an answer whose error is of any type, told as a refusal; and that of a search that ended so
+abbrev pub told_as : {A E : Type 0} → (E → Refusal) → Result A E → Result A Refusal
+told_as told (Ok v) = Ok v
+told_as told (Err e) = Err (told e)
+
+abbrev pub settling_as : {E : Type 0} → (E → Refusal) → Search → List BaseName → Handout → Lengths → Result Bool E → Settled
+settling_as told s names h k (Ok found) = settling s names h k (Ok found)
+settling_as told s names h k (Err e) =
+    settled (given_back k.sorts k.entries s.sorts.now) (told_in (Err (told e)) h)
 
 -- no nodes but those that the call began with, and nothing in the scratch and in the index
 abbrev pub Tidied : Lengths → Search → Search → Type 0
