@@ -286,3 +286,6 @@ pub const STAGE_AT: usize = LENT_TOLD_AT + 13;
 pub const LAST_AT: usize = STAGE_AT + 1;
 
 pub const LIST_WORDS: usize = 36160;
+
+// Counts of rows stop here.
+pub const MOST_ROWS: u16 = 65535;

@@ -213,3 +213,6 @@ pub const FUNCTION_KIND: u16 = 11;
 pub const DEF_KIND: u16 = 12;
 
 pub const LAST_KIND: u16 = 13;
+
+// Where the sums of a distance stop.
+pub const MOST_STEPS: u8 = 255;
