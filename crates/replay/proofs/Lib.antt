@@ -5,3 +5,4 @@ mod Ending
 mod Replaying
 pub mod Written
 pub mod Reasons
+pub mod Calls

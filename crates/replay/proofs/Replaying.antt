@@ -13,7 +13,7 @@ use Rattle.std.specs.declared.io.Error.{Error}
 use Rattle.std.specs.Io.KnownBytes.{Appends, prepend_known}
 use Rattle.line_input.specs.declared.Lines.{Lines}
 use Rattle.line_input.specs.Found.{Nothing}
-use Rattle.line_input.specs.Lines.{LineRead, seen}
+use Rattle.line_input.specs.Lines.{LineRead, SameMemory, seen}
 use Rattle.line_input.specs.Reads.{Shows}
 use Rattle.line_input.specs.Answers.{unread}
 use Rattle.line_input.specs.Taking.{held_lines}
@@ -23,7 +23,8 @@ use Rattle.replay.specs.declared.Tally.{Tally}
 use Rattle.replay.specs.Inner.Lines.{counted_of}
 use Rattle.replay.specs.Said.{end_said}
 use Rattle.replay.specs.Ending.{ReadingEnds}
-use Rattle.replay.specs.Replays.{line_step, line_text, Run, started, after_line, after_lines, known_input, LinesOf, Replayed}
+use Rattle.replay.specs.Reading.{LinesRead, a_line_more, LinesEnd}
+use Rattle.replay.specs.Replays.{line_step, line_text, Run, started, after_line, after_lines, known_input, LinesOf, Replayed, ReplayedFrom}
 
 pub appends_more : (a b c : Option (List ℕ)) (xs ys : List ℕ) → Appends a b xs → Appends b c ys → Appends a c (xs ++ ys)
 appends_more None b c xs ys p q = tt
@@ -85,15 +86,35 @@ module _ {R : Type 0} {shows : Shows R} {reader reader' : R} (known known' : Opt
   as_long : LinesLeft (length before.line.bytes.now) xs (not_taken before) known taken
   as_long = subst (λ (n : ℕ). LinesLeft n xs (not_taken before) known taken) (sym m) s
 
-  pub one_line_more : (n : ℕ) → r ≡ Ok (Some n) → LinesLeft most xs (not_taken after) known' (taken ++ (take n after.line.bytes.now ∷ []))
-  one_line_more n e =
-      subst (λ (k : ℕ). LinesLeft k xs (not_taken after) known' (taken ++ (take n after.line.bytes.now ∷ []))) m
-      (line_read known known' before after r l room some xs taken as_long n e)
+  pub one_line_more : (n : ℕ) → r ≡ Ok (Some n) → (line : List ℕ) → line ≡ take n after.line.bytes.now
+      → LinesLeft most xs (not_taken after) known' (taken ++ (line ∷ []))
+  one_line_more n e line h =
+      subst (λ x. LinesLeft most xs (not_taken after) known' (taken ++ (x ∷ []))) (sym h)
+      (subst (λ (k : ℕ). LinesLeft k xs (not_taken after) known' (taken ++ (take n after.line.bytes.now ∷ []))) m
+      (line_read known known' before after r l room some xs taken as_long n e))
 
   pub all_lines : r ≡ Ok None → LinesOf most xs taken true
   all_lines e =
       let h = all_lines_read known known' before after r l room some xs taken as_long e in
       record { later = []; first = subst (λ (k : ℕ). held_lines k xs ≡ taken) m h ∙ sym (append-nil taken); all = λ x. refl }
+
+pub same_memory_then : (a b c : Lines) → SameMemory a b → SameMemory b c → SameMemory a c
+same_memory_then a b c p q =
+    record {
+      buffer = q.buffer ∙ p.buffer;
+      line = q.line ∙ p.line;
+      buffer_long = q.buffer_long ∙ p.buffer_long;
+      line_long = q.line_long ∙ p.line_long;
+    }
+
+-- a call more, which gave a line
+pub one_call_more : {R : Type 0} {shows : Shows R} {remaining : R → Option (List ℕ)} (s t u : R) (start before after : Lines)
+    (ls : List (List ℕ)) → LinesRead shows remaining s start ls t before → (r : Result (Option ℕ) Error)
+    → LineRead shows t u (remaining t) (remaining u) before after r → (n : ℕ) → r ≡ Ok (Some n)
+    → (line : List ℕ) → line ≡ take n after.line.bytes.now → LinesRead shows remaining s start (ls ++ (line ∷ [])) u after
+one_call_more {shows = shows} {remaining = remaining} s t u start before after ls g r l n e line h =
+    subst (λ x. LinesRead shows remaining s start (ls ++ (x ∷ [])) u after) (sym h)
+    (a_line_more s t u start before after ls n g (subst (λ x. LineRead shows t u (remaining t) (remaining u) before after x) e l))
 
 pub first_lines : (most : ℕ) (xs left : List ℕ) (known : Option (List ℕ)) (taken : List (List ℕ)) → LinesLeft most xs left known taken
     → LinesOf most xs taken false
@@ -110,8 +131,9 @@ module _ {S : Type 0} (step : S → ℕ → List ℕ → S × Verdict) (most : �
   lines_then r [] l = refl
   lines_then r (k ∷ ls) l = lines_then (after_line step most r k) ls l
 
+  -- `Given` says which calls gave the lines.
   pub record Replaying (s : S) (input shown₀ : Option (List ℕ)) (count : ℕ) (held : S) (tally : Tally) (left : List ℕ)
-      (known shown : Option (List ℕ)) : Type 0 where
+      (known shown : Option (List ℕ)) (Given : List (List ℕ) → Type 0) : Type 0 where
     pub lines : List (List ℕ)
     pub count_is : length lines ≡ count
     pub run : Run S
@@ -120,11 +142,12 @@ module _ {S : Type 0} (step : S → ℕ → List ℕ → S × Verdict) (most : �
     pub tally_is : tally ≡ run.tally
     pub said : Appends shown₀ shown run.said
     pub lines_left : (xs : List ℕ) → input ≡ Some xs → LinesLeft most xs left known lines
+    pub given : Given lines
 
-  pub none_replayed : (s : S) (lines : Lines) (known shown : Option (List ℕ))
-      → Replaying s (known_input lines known) shown 0 s (started s).tally (not_taken lines) known shown
+  pub none_replayed : (s : S) (lines : Lines) (known shown : Option (List ℕ)) (Given : List (List ℕ) → Type 0) → Given []
+      → Replaying s (known_input lines known) shown 0 s (started s).tally (not_taken lines) known shown Given
   unfolding after_lines
-  none_replayed s lines known shown =
+  none_replayed s lines known shown Given none =
       record {
         lines = [];
         count_is = refl;
@@ -135,18 +158,21 @@ module _ {S : Type 0} (step : S → ℕ → List ℕ → S × Verdict) (most : �
         said = nothing_more shown;
         lines_left = λ xs e. let k = known_input_is lines known xs e in
             record { rest = k.rest; is = k.is; lines_are = ap (held_lines most) k.whole_is };
+        given = none;
       }
 
   module _ (s : S) (input shown₀ : Option (List ℕ)) (count : ℕ) (held : S) (tally : Tally) (left : List ℕ) (known shown : Option (List ℕ))
-      (g : Replaying s input shown₀ count held tally left known shown) where
+      (Given : List (List ℕ) → Type 0) (g : Replaying s input shown₀ count held tally left known shown Given) where
     pub one_replayed : (line : List ℕ) (held' : S) (tally' : Tally) (left' : List ℕ) (known' shown' : Option (List ℕ))
+        (Given' : List (List ℕ) → Type 0)
         → held' ≡ (line_step step most held line).0 → tally' ≡ counted_of tally (line_step step most held line).1
         → Appends shown shown' (line_text tally line (line_step step most held line).1)
         → ((xs : List ℕ) → input ≡ Some xs → (taken : List (List ℕ)) → LinesLeft most xs left known taken
         → LinesLeft most xs left' known' (taken ++ (line ∷ [])))
-        → Replaying s input shown₀ (count + 1) held' tally' left' known' shown'
+        → ((taken : List (List ℕ)) → Given taken → Given' (taken ++ (line ∷ [])))
+        → Replaying s input shown₀ (count + 1) held' tally' left' known' shown' Given'
     unfolding after_line
-    one_replayed line held' tally' left' known' shown' e f a h' =
+    one_replayed line held' tally' left' known' shown' Given' e f a h' one_more =
         let h = g.held_is in
         let t = g.tally_is in
         record {
@@ -159,28 +185,43 @@ module _ {S : Type 0} (step : S → ℕ → List ℕ → S × Verdict) (most : �
           said = appends_more shown₀ shown shown' g.run.said (line_text g.run.tally line (line_step step most g.run.held line).1) g.said
               (transport (λ i. Appends shown shown' (line_text (t i) line (line_step step most (h i) line).1)) a);
           lines_left = λ xs k. h' xs k g.lines (g.lines_left xs k);
+          given = one_more g.lines g.given;
         }
 
     pub all_replayed : {R : Type 0} (shows : Shows R) (reader reader' : R) (complete : S → Bool) (read : Bool) (b : Bool)
-        (shown' : Option (List ℕ)) → b ≡ complete held → ReadingEnds shows reader count read reader'
+        (shown' : Option (List ℕ)) (of_reader : R → Option (List ℕ)) (before after : Lines) → b ≡ complete held → ReadingEnds shows reader count read reader'
         → ((xs : List ℕ) → input ≡ Some xs → (taken : List (List ℕ)) → LinesLeft most xs left known taken → LinesOf most xs taken read)
-        → Appends shown shown' (end_said tally read b) → Replayed shows reader reader' step complete most s input shown₀ shown'
-    all_replayed shows reader reader' complete read b shown' e d h' a =
+        → ((taken : List (List ℕ)) → length taken ≡ count → Given taken → LinesEnd shows of_reader reader before taken read reader' after)
+        → Appends shown shown' (end_said tally read b)
+        → ReplayedFrom shows of_reader reader reader' step complete most s held input before after shown₀ shown'
+    all_replayed shows reader reader' complete read b shown' of_reader before after e d h' calls a =
         let h = g.held_is in
         let t = g.tally_is in
         let r = g.is in
         record {
-          lines = g.lines;
-          read = read;
-          said =
-              transport (λ i. Appends shown₀ shown' ((r i).said ++ end_said (r i).tally read (complete (r i).held)))
-              (appends_more shown₀ shown shown' g.run.said (end_said g.run.tally read (complete g.run.held)) g.said
-              (transport (λ i. Appends shown shown' (end_said (t i) read (complete (h i))))
-              (subst (λ x. Appends shown shown' (end_said tally read x)) e a)));
-          of_input = if_known input (λ xs. LinesOf most xs g.lines read) (λ xs k. h' xs k g.lines (g.lines_left xs k));
-          ends = subst (λ (n : ℕ). ReadingEnds shows reader n read reader') (sym g.count_is) d;
+          replayed = record {
+            lines = g.lines;
+            read = read;
+            said =
+                transport (λ i. Appends shown₀ shown' ((r i).said ++ end_said (r i).tally read (complete (r i).held)))
+                (appends_more shown₀ shown shown' g.run.said (end_said g.run.tally read (complete g.run.held)) g.said
+                (transport (λ i. Appends shown shown' (end_said (t i) read (complete (h i))))
+                (subst (λ x. Appends shown shown' (end_said tally read x)) e a)));
+            held = h ∙ ap (λ (x : Run S). x.held) r;
+            of_input = if_known input (λ xs. LinesOf most xs g.lines read) (λ xs k. h' xs k g.lines (g.lines_left xs k));
+            ends = subst (λ (n : ℕ). ReadingEnds shows reader n read reader') (sym g.count_is) d;
+          };
+          calls = calls g.lines g.count_is g.given;
         }
 
 pub on_ok : {T E : Type 0} (r : Result T E) {P Q : Type 0} → (P → Q) → OnOk r P → OnOk r Q
 on_ok (Ok x) f p = f p
 on_ok (Err e) f p = tt
+
+module _ {S : Type 0} (step : S → ℕ → List ℕ → S × Verdict) (complete : S → Bool) (most : ℕ) (s s' : S) where
+  pub without_the_calls : {T E R : Type 0} (shows : Shows R) (remaining : R → Option (List ℕ)) (reader reader' : R)
+      (known : Option (List ℕ)) (before after : Lines) (shown shown' : Option (List ℕ)) (r : Result T E)
+      → OnOk r (ReplayedFrom shows remaining reader reader' step complete most s s' known before after shown shown')
+      → OnOk r (Replayed shows reader reader' step complete most s s' known shown shown')
+  without_the_calls shows remaining reader reader' known before after shown shown' (Ok x) p = p.replayed
+  without_the_calls shows remaining reader reader' known before after shown shown' (Err e) p = tt

@@ -2,4 +2,5 @@
 pub mod Inner
 pub mod Said
 pub mod Ending
+pub mod Reading
 pub mod Replays

@@ -17,6 +17,7 @@ use Rattle.replay.specs.declared.Tally.{Tally}
 use Rattle.replay.specs.Inner.Lines.{counted_of}
 use Rattle.replay.specs.Said.{said_of, end_said}
 use Rattle.replay.specs.Ending.{ReadingEnds}
+use Rattle.replay.specs.Reading.{LinesEnd}
 
 -- what is held after a line of a letter, and what came of it, where it is a letter and numbers
 unfoldable pub numbers_step : {S : Type 0} → (S → ℕ → List ℕ → S × Verdict) → S → ℕ → Option Fields → S × Verdict
@@ -75,14 +76,22 @@ pub record LinesOf (most : ℕ) (input : List ℕ) (lines : List (List ℕ)) (re
   pub first : held_lines most input ≡ lines ++ later
   pub all : read ≡ true → later ≡ []
 
--- What is said of lines, and at the end, is written; they are those of the input, where its bytes are known; and reads that
--- were made say why reading has ended.
+-- What is said of lines, and at the end, is written, and what is held is what they leave; they are those of the input, where
+-- its bytes are known; and reads that were made say why reading has ended.
 pub record Replayed {R S : Type 0} (shows : Shows R) (reader reader-left : R) (step : S → ℕ → List ℕ → S × Verdict)
-    (complete : S → Bool) (most : ℕ) (s : S) (known shown shown-left : Option (List ℕ)) : Type 0 where
+    (complete : S → Bool) (most : ℕ) (s s-left : S) (known shown shown-left : Option (List ℕ)) : Type 0 where
   pub lines : List (List ℕ)
   pub read : Bool
   pub said : Appends shown shown-left
       ((after_lines step most (started s) lines).said
       ++ end_said (after_lines step most (started s) lines).tally read (complete (after_lines step most (started s) lines).held))
+  pub held : s-left ≡ (after_lines step most (started s) lines).held
   pub of_input : IfSome known (λ xs. LinesOf most xs lines read)
   pub ends : ReadingEnds shows reader (length lines) read reader-left
+
+-- The same of lines that calls of `next_line` have given, one after another: these say what is left to take lines from.
+pub record ReplayedFrom {R S : Type 0} (shows : Shows R) (remaining : R → Option (List ℕ)) (reader reader-left : R)
+    (step : S → ℕ → List ℕ → S × Verdict) (complete : S → Bool) (most : ℕ) (s s-left : S)
+    (known : Option (List ℕ)) (before after : Lines) (shown shown-left : Option (List ℕ)) : Type 0 where
+  pub replayed : Replayed shows reader reader-left step complete most s s-left known shown shown-left
+  pub calls : LinesEnd shows remaining reader before replayed.lines replayed.read reader-left after

@@ -2,11 +2,12 @@
 // differ, and what is said of a line and at the end.
 #![tactic(auto)]
 
-ghost use Rattle.std.specs.Prelude.{Bool, List, ℕ, ◌≡◌, ◌≤◌, length, OnOk, IfOk, IfSome};
+ghost use Rattle.std.specs.Prelude.{Bool, List, ℕ, ◌≡◌, ◌≤◌, length, take, OnOk, IfOk, IfSome};
 ghost use Rattle.replay.specs.Inner.Numbers.{max_fields, digits, number_at, fields_of, values_read};
 ghost use Rattle.std.specs.Io.KnownBytes.{Appends};
 ghost use Rattle.replay.specs.Said.{line_said, bad_said, other_said, said_of, unless, counted_unless, end_said};
-ghost use Rattle.replay.specs.Replays.{step_of, line_step, line_text, held_bytes, known_input, Replayed};
+ghost use Rattle.replay.specs.Replays.{step_of, line_step, line_text, held_bytes, known_input, Replayed, ReplayedFrom};
+ghost use Rattle.line_input.specs.Lines.{SameMemory};
 ghost use Rattle.replay.specs.Inner.Lines.{near_enough, words_kept, store_from, one_more, counted_of};
 
 use line_input::{Lines, Source};
@@ -288,6 +289,14 @@ fn ask_line<T: Recorded>(recorded: &mut T, line: &[u8], most: usize) -> Verdict
     replay_line(recorded, line)
 }
 
+// So many bytes of a line are held.
+fn held_of<'a>(lines: &'a Lines<'_>, count: usize) -> &'a [u8]
+    requires { count ≤ length lines.now.line.bytes.now }
+    ensures { result.now ≡ take count lines.now.line.bytes.now }
+{
+    &lines.line.bytes[..count]
+}
+
 // A line asked again, and what there is to say of it.
 fn take_line<T: Recorded, W: Write>(
     recorded: &mut T,
@@ -315,9 +324,10 @@ pub fn replay_all<T: Recorded, R: Source, W: Write>(
     reader: &mut R,
     out: &mut W,
 ) -> io::Result<()>
-    ensures { OnOk result (Replayed R.shows reader.old reader.new T.step T.complete
-        (length lines.old.line.bytes.now) recorded.old
-        (known_input lines.old (R.remaining reader.old)) (W.contents out.old) (W.contents out.new)) }
+    ensures same_memory { SameMemory lines.old lines.new }
+    ensures replayed { OnOk result (ReplayedFrom R.shows R.remaining reader.old reader.new T.step T.complete
+        (length lines.old.line.bytes.now) recorded.old recorded.new (known_input lines.old (R.remaining reader.old))
+        lines.old lines.new (W.contents out.old) (W.contents out.new)) }
 {
     let most = lines.line.bytes.len();
     let mut tally = Tally {
@@ -328,7 +338,7 @@ pub fn replay_all<T: Recorded, R: Source, W: Write>(
     for _ in 0..u64::MAX {
         match lines.next_line(reader) {
             Ok(Some(length)) => {
-                tally = take_line(recorded, out, &lines.line.bytes[..length], most, tally)?;
+                tally = take_line(recorded, out, held_of(lines, length), most, tally)?;
             }
             Ok(None) => return finish(out, tally, true, recorded.is_complete()),
             Err(_) => return finish(out, tally, false, recorded.is_complete()),
@@ -343,8 +353,8 @@ pub fn run<T: Recorded, R: Source, W: Write>(
     reader: &mut R,
     out: &mut W,
 ) -> io::Result<()>
-    ensures { OnOk result (Replayed R.shows reader.old reader.new T.step T.complete held_bytes recorded.old
-        (R.remaining reader.old) (W.contents out.old) (W.contents out.new)) }
+    ensures { OnOk result (Replayed R.shows reader.old reader.new T.step T.complete held_bytes
+        recorded.old recorded.new (R.remaining reader.old) (W.contents out.old) (W.contents out.new)) }
 {
     let mut buffer = [0u8; BUFFER_BYTES];
     let mut line = [0u8; HELD_LINE];
