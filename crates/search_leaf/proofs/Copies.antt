@@ -1,12 +1,12 @@
 -- Copying words, as the loop meets it, and what a copy leaves: the words are at both places, and only those that it wrote have changed. So the measure and
 -- the choices of the branch are the incumbent's, whose sorts and the branch stay. Assumes nothing.
-use mathlib.Core.Path.{◌≡◌, ap, ◌∙◌}
+use mathlib.Core.Path.{◌≡◌, sym, ap, ◌∙◌}
 use mathlib.Core.List.{List, ◌++◌, append_assoc}
-use Prim.Native.Nat.{ℕ, ◌+◌, ◌-◌, ◌≤◌}
+use Prim.Native.Nat.{ℕ, ◌+◌, ◌<◌, ◌≤◌}
+use native.Mathlib.Numerals.{add-one}
 use native.Mathlib.Omega.{arith}
-use lib.ListN.{length, take, drop, length-drop}
-use lib.Seq.{length-take-le, take_at, drop_at, length-paste, drop-paste}
-use Rattle.std.specs.List.{copy_within}
+use lib.ListN.{length, get_or, set, take, drop, length-drop, get_or-append}
+use lib.Seq.{length-take-le, take_at, drop_at, get_or-take, get_or-drop, paste-zero, paste-suc, length-paste, drop-paste}
 use Rattle.inference.specs.Constraints.{max_exprs, max_constraints, max_components}
 use Rattle.search_state.specs.declared.Sizes.{Sizes}
 use Rattle.search_state.specs.declared.Branch.{Branch}
@@ -17,6 +17,16 @@ use Rattle.search_state.specs.Inner.Searching.{SamePath}
 use Rattle.search_state.proofs.Parts.{part_before, part_after, changed_wider, same_path_trans, measure_changes_no_path, choices_change_no_path}
 use Rattle.words.proofs.Parts.{length_part}
 use Rattle.search_leaf.specs.Inner.Leaf.{copied, kept_as_best, Keepable}
+
+-- i of n words are copied
+pub record Copying (a b n : ℕ) (sc₀ sc : List ℕ) (i : ℕ) : Type 0 where
+  pub apart : a + n ≤ b
+  pub inside : b + n ≤ length sc₀
+  pub within : i ≤ n
+  pub same : sc ≡ copied a b i sc₀
+
+pub start : (a b n : ℕ) (sc : List ℕ) → (a + n ≤ b) × (b + n ≤ length sc) → Copying a b n sc sc 0
+start a b n sc p = record { apart = p.0; inside = p.1; within = omega arith; same = paste-zero sc b (drop a sc) }
 
 module _ (a b n : ℕ) (sc : List ℕ) (apart : a + n ≤ b) (inside : b + n ≤ length sc) where
   long : n ≤ length (drop a sc)
@@ -45,14 +55,37 @@ module _ (a b n : ℕ) (sc : List ℕ) (apart : a + n ≤ b) (inside : b + n ≤
       ∙ (ap (take n) (drop_at (take b sc) (part a n sc ++ drop (b + n) sc) b b_long) ∙ take_at (part a n sc)
       (drop (b + n) sc) n (length_part a n sc (omega (arith, apart, inside))))
 
+  pub copied_before : (j : ℕ) → j < b → get_or (copied a b n sc) j 0 ≡ get_or sc j 0
+  copied_before j l =
+      ap (λ (xs : List ℕ). get_or xs j 0) split
+      ∙ (get_or-append (take b sc) (part a n sc ++ drop (b + n) sc) 0 j (omega (arith, l, b_long)) ∙ get_or-take b sc j 0 l)
+
+module _ (a b n : ℕ) (sc₀ sc : List ℕ) (i : ℕ) (G : Copying a b n sc₀ sc i) where
+  pub copying_long : length sc ≡ length sc₀
+  copying_long = ap length G.same ∙ copied_long a b i sc₀ (omega (arith, G.apart, G.within)) (omega (arith, G.inside, G.within))
+
+  pub next : i < n → Copying a b n sc₀ (set sc (b + i) (get_or sc (a + i) 0)) (i + 1)
+  next h =
+      record {
+        apart = G.apart;
+        inside = G.inside;
+        within = omega (arith, h);
+        same =
+            ap (λ (xs : List ℕ). set xs (b + i) (get_or xs (a + i) 0)) G.same
+            ∙ (ap (set (copied a b i sc₀) (b + i)) (copied_before a b i sc₀ (omega (arith, G.apart, h))
+            (omega (arith, G.inside, h)) (a + i) (omega (arith, G.apart, h)) ∙ sym (get_or-drop a sc₀ i 0))
+            ∙ (paste-suc sc₀ b (drop a sc₀) i 0 (omega (arith, G.inside, h)) (omega (arith, length-drop a sc₀, G.apart, G.inside, h))
+            ∙ ap (λ (j : ℕ). copied a b j sc₀) (sym (add-one i))));
+      }
+
+  pub all_copied : n ≤ i → sc ≡ copied a b n sc₀
+  all_copied h = let e : i ≡ n = omega (arith, h, G.within) in G.same ∙ ap (λ (j : ℕ). copied a b j sc₀) e
+
 -- What is kept.
-pub kept_by_two : (z : Sizes) (sc one two : List ℕ) → one ≡ copy_within sc measure_at (measure_at + z.components) best_measure_at
-    → two ≡ copy_within one choices_at (choices_at + z.disjunctions) best_choices_at → two ≡ kept_as_best z sc
+pub kept_by_two : (z : Sizes) (sc one two : List ℕ) → one ≡ copied measure_at best_measure_at z.components sc
+    → two ≡ copied choices_at best_choices_at z.disjunctions one → two ≡ kept_as_best z sc
 unfolding kept_as_best
-kept_by_two z sc one two f g =
-    g ∙ (ap (λ (n : ℕ). copied choices_at best_choices_at n one) (let q : choices_at + z.disjunctions - choices_at ≡ z.disjunctions = omega arith in q)
-    ∙ ap (copied choices_at best_choices_at z.disjunctions)
-    (f ∙ ap (λ (n : ℕ). copied measure_at best_measure_at n sc) (let q : measure_at + z.components - measure_at ≡ z.components = omega arith in q)))
+kept_by_two z sc one two f g = g ∙ ap (copied choices_at best_choices_at z.disjunctions) f
 
 module _ (z : Sizes) (sc : List ℕ) (p : Keepable z sc) where
   abbrev one : List ℕ

@@ -13,7 +13,7 @@ ghost use Rattle.search_state.specs.Inner.Leaves.{Extracts};
 ghost use Rattle.search_state.specs.Inner.Solving.{AtLeaf, Comparable, Comes, KeepsRest, has_best, state_of, lent_of};
 ghost use Rattle.search_state.specs.Inner.Solving.{Indexes, IndexesOn};
 ghost use Rattle.search_leaf.specs.Inner.Leaf.{ranked_by, IsDominated, Readable, sorts_from};
-ghost use Rattle.search_leaf.specs.Inner.Leaf.{kept_as_best, Keepable};
+ghost use Rattle.search_leaf.specs.Inner.Leaf.{copied, kept_as_best, Keepable};
 
 use measures::compare;
 use resolved_sort::NoRoom;
@@ -82,6 +82,17 @@ fn extract(search: &mut Search<'_>) -> Result<bool, NoRoom>
     Ok(true)
 }
 
+// Copies n words to a place after them.
+// kept: word by word and no copy_within, so that an archive for C needs no memmove from outside.
+fn copy(scratch: &mut [u16], from: usize, to: usize, n: usize)
+    requires { (from + n ≤ to) × (to + n ≤ length scratch.old) }
+    ensures { scratch.new ≡ copied from to n scratch.old }
+{
+    for i in 0..n {
+        scratch[to + i] = scratch[from + i];
+    }
+}
+
 // Keeps the measure and the choices of the branch as the incumbent's.
 // kept: of a Search these two only, so that its contract says nothing of the rest.
 fn keep(scratch: &mut [u16], sizes: Sizes)
@@ -89,9 +100,9 @@ fn keep(scratch: &mut [u16], sizes: Sizes)
     ensures { scratch.new ≡ kept_as_best sizes scratch.old }
 {
     let components = sizes.components as usize;
-    scratch.copy_within(MEASURE_AT..MEASURE_AT + components, BEST_MEASURE_AT);
+    copy(scratch, MEASURE_AT, BEST_MEASURE_AT, components);
     let disjunctions = sizes.disjunctions as usize;
-    scratch.copy_within(CHOICES_AT..CHOICES_AT + disjunctions, BEST_CHOICES_AT);
+    copy(scratch, CHOICES_AT, BEST_CHOICES_AT, disjunctions);
 }
 
 // The leaf becomes the incumbent.

@@ -45,7 +45,7 @@ use search_state::{
 use solve_checks::{Given, Problem, components, disjunction_count};
 use sort_interner::{clear_index, clear_past, give_back};
 use unification::{Lengths, NODE_ENTRIES_AT};
-use words::{BIT_8, BIT_24, BIT_40, BIT_52, copy, put, word};
+use words::{BIT_8, BIT_24, BIT_40, BIT_52, put, word};
 
 // What a call hands out: the rows of its expressions, the measure, and the rows of its choices.
 #[derive(Drop)]
@@ -79,6 +79,7 @@ fn clear_nodes(nodes: &mut [u16], node_count: u16, entry_count: u16)
 }
 
 // The measure handed out.
+// kept: word by word and no copy, so that an archive for C needs no memmove from outside.
 fn write_measure(measure: &mut [u16], search: &Search<'_>)
     requires { (search.now.sizes.components ≤ max_components)
         × (search.now.sizes.components ≤ length measure.old) }
@@ -86,13 +87,10 @@ fn write_measure(measure: &mut [u16], search: &Search<'_>)
         ≡ written_over (part best_measure_at search.now.sizes.components search.now.scratch.now)
         measure.old }
 {
-    copy(
-        measure,
-        0,
-        search.scratch,
-        BEST_MEASURE_AT,
-        search.sizes.components as usize,
-    );
+    for i in 0..search.sizes.components {
+        let component = word(search.scratch, BEST_MEASURE_AT + i as usize);
+        put(measure, i as usize, component);
+    }
 }
 
 // Of a disjunction the slot of its choice, which comes after k others. How many there are then.

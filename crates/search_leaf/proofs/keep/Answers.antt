@@ -3,4 +3,4 @@ use Rattle.search_leaf.proofs.Copies as law
 use Rattle.search_leaf.proofs.keep.Goals as goal
 
 pub returns : goal.returns
-returns c = law.kept_by_two c.args.sizes _ _ _ c.copy_within.ensures.after c.copy_within-2.ensures.after
+returns c = law.kept_by_two c.args.sizes _ _ _ c.copy.ensures c.copy-2.ensures
