@@ -3,7 +3,7 @@
 #![tactic(auto)]
 
 ghost use Rattle.std.specs.Prelude.{Bool, List, ℕ, ◌≡◌, ◌≤◌, length, take, OnOk, IfOk, IfSome};
-ghost use Rattle.replay.specs.Inner.Numbers.{max_fields, digits, number_at, fields_of, values_read};
+ghost use Rattle.replay.specs.Inner.Numbers.{max_fields, number_at, fields_of, values_read};
 ghost use Rattle.std.specs.Io.KnownBytes.{Appends};
 ghost use Rattle.replay.specs.Said.{line_said, bad_said, other_said, said_of, unless, counted_unless, end_said};
 ghost use Rattle.replay.specs.Replays.{step_of, line_step, line_text, held_bytes, known_input, Replayed, ReplayedFrom};
@@ -58,23 +58,23 @@ pub struct Tally {
     pub differ: u64,
 }
 
-// How many digits a text starts with.
-fn digit_count(text: &[u8]) -> usize
-    ensures { result ≡ length (digits text.now) }
-{
-    text.iter()
-        .position(|byte| !byte.is_ascii_digit())
-        .unwrap_or(text.len())
-}
-
 // The number at a position of a line, by its decimal digits, of which it has at least one, and the position past them.
+// kept: digits added up here, and no `parse`: that takes a text, and to see that bytes are one takes longer than this.
 fn number_at(line: &[u8], at: usize) -> Option<(u64, usize)>
     ensures { result ≡ number_at line.now at }
 {
     let text = rest(line, at);
-    let count = digit_count(text);
-    let value = str::from_utf8(&text[..count]).ok()?.parse::<u64>().ok()?;
-    (value <= MOST_VALUE).then_some((value, at + count))
+    let mut value: u64 = 0;
+    for (count, &byte) in text.iter().enumerate() {
+        if !byte.is_ascii_digit() {
+            return (0 < count).then_some((value, at + count));
+        }
+        if MOST_VALUE / 10 < value {
+            return None;
+        }
+        value = value * 10 + u64::from(byte - b'0');
+    }
+    (at < line.len()).then_some((value, line.len()))
 }
 
 // The numbers of a line after its letter: at most 18, each after one space; none where it is not a letter and numbers.

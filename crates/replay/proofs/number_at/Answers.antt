@@ -1,39 +1,36 @@
--- Digits are text, and the library reads the number that they write, or none where no digit stands. Assumes nothing.
-use Rattle.std.proofs.Common.{sym, ◌∙◌, arith, subst}
-use Rattle.std.specs.Str.Parse.{ParsesUnsigned}
+-- The digits read and those that are left come to the number. Assumes nothing.
+use Rattle.std.proofs.Common.{sym, ◌∙◌, arith}
 use Rattle.replay.proofs.Numbers as law
 use Rattle.replay.proofs.number_at.Goals as goal
 
-pub slice_bounds-from_utf8-end : goal.slice_bounds-from_utf8-end
-slice_bounds-from_utf8-end c = law.all_there c.args.line.now c.args.at _ c.rest-text.ensures _ c.digit_count-count.ensures
+pub loop-count-init : goal.loop-count-init
+loop-count-init c = (omega arith, law.from_the_first _ _ _ c.rest-text.ensures)
 
-pub returns-in_err-ok : goal.returns-in_err-ok
-returns-in_err-ok c =
-    absurd
-    (law.is_text c.from_utf8.result _ _ c.from_utf8.ensures.cases
-    (law.digits_are_text c.args.line.now c.args.at _ c.rest-text.ensures _ c.digit_count-count.ensures)
-    (sym c.ok.ensures.value ∙ c.in_err-ok.was))
+pub returns-then-not-is_ascii_digit : goal.returns-then-not-is_ascii_digit
+returns-then-not-is_ascii_digit c =
+    let i = c.loop-count.invariant in
+    c.then_some.ensures
+    ∙ law.ends_at_another _ _ _ c.rest-text.ensures _ _ c.loop-count-test.true i.0
+    (sym c.is_ascii_digit.ensures.value ∙ c.if-not-is_ascii_digit.true)
+    ∙ i.1
 
-pub returns-in_err-value : goal.returns-in_err-value
-returns-in_err-value c =
-    let text = law.text_of c.from_utf8.result _ _ c.from_utf8.ensures.cases _ (sym c.ok.ensures.value ∙ c.in_ok-ok.was) in
-    c.from_residual-in_err-value.ensures
-    ∙ law.read_none c.args.line.now c.args.at _ c.rest-text.ensures _ c.digit_count-count.ensures c.parse.result
-    (subst (λ bs. ParsesUnsigned 64 10 bs c.parse.result) text c.parse.ensures.value.0)
-    (sym c.ok-2.ensures.value ∙ c.in_err-value.was)
+pub returns-then-value : goal.returns-then-value
+returns-then-value c =
+    law.too_many_digits _ _ _ c.rest-text.ensures _ _ c.loop-count-test.true
+    (sym c.is_ascii_digit.ensures.value ∙ c.if-not-is_ascii_digit.false) c.if-value.true
+    ∙ c.loop-count.invariant.1
 
-pub overflow_add-at : goal.overflow_add-at
-overflow_add-at c =
-    let text = law.text_of c.from_utf8.result _ _ c.from_utf8.ensures.cases _ (sym c.ok.ensures.value ∙ c.in_ok-ok.was) in
-    let w = law.within c.args.line.now c.args.at _ c.rest-text.ensures _ c.digit_count-count.ensures c.parse.result
-    (subst (λ bs. ParsesUnsigned 64 10 bs c.parse.result) text c.parse.ensures.value.0) _
-    (sym c.ok-2.ensures.value ∙ c.in_ok-value.was) in
-    omega (arith, w)
+pub loop-count-preserved : goal.loop-count-preserved
+loop-count-preserved c =
+    let t = c.rest-text.ensures in
+    let e = sym c.is_ascii_digit.ensures.value ∙ c.if-not-is_ascii_digit.false in (
+      law.small_still _ _ _ c.if-value.false e c.from.ensures,
+      law.one_more_digit _ _ _ t _ _ c.loop-count-test.true e _ c.from.ensures ∙ c.loop-count.invariant.1,
+    )
 
 pub returns : goal.returns
 returns c =
-    let text = law.text_of c.from_utf8.result _ _ c.from_utf8.ensures.cases _ (sym c.ok.ensures.value ∙ c.in_ok-ok.was) in
-    c.then_some.ensures
-    ∙ law.read_some c.args.line.now c.args.at _ c.rest-text.ensures _ c.digit_count-count.ensures c.parse.result
-    (subst (λ bs. ParsesUnsigned 64 10 bs c.parse.result) text c.parse.ensures.value.0) _
-    (sym c.ok-2.ensures.value ∙ c.in_ok-value.was)
+    let i = c.loop-count.invariant in
+    c.then_some-2.ensures
+    ∙ law.ends_with_the_line _ _ _ c.rest-text.ensures _ _ i.0 c.loop-count.auto.count-end c.loop-count-test.false
+    ∙ i.1
