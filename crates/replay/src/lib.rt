@@ -69,7 +69,8 @@ fn number_at(line: &[u8], at: usize) -> Option<(u64, usize)>
         if !byte.is_ascii_digit() {
             return (0 < count).then_some((value, at + count));
         }
-        if MOST_VALUE / 10 < value {
+        let full = MOST_VALUE / 10 < value;
+        if full {
             return None;
         }
         value = value * 10 + u64::from(byte - b'0');

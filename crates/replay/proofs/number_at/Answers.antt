@@ -14,17 +14,17 @@ returns-then-not-is_ascii_digit c =
     (sym c.is_ascii_digit.ensures.value ∙ c.if-not-is_ascii_digit.true)
     ∙ i.1
 
-pub returns-then-value : goal.returns-then-value
-returns-then-value c =
+pub returns-then-full : goal.returns-then-full
+returns-then-full c =
     law.too_many_digits _ _ _ c.rest-text.ensures _ _ c.loop-count-test.true
-    (sym c.is_ascii_digit.ensures.value ∙ c.if-not-is_ascii_digit.false) (omega (arith, c.if-value.true))
+    (sym c.is_ascii_digit.ensures.value ∙ c.if-not-is_ascii_digit.false) (omega (arith, c.if-full.true))
     ∙ c.loop-count.invariant.1
 
 pub loop-count-preserved : goal.loop-count-preserved
 loop-count-preserved c =
     let t = c.rest-text.ensures in
     let e = sym c.is_ascii_digit.ensures.value ∙ c.if-not-is_ascii_digit.false in (
-      law.small_still _ _ _ (omega (arith, c.if-value.false)) e c.from.ensures,
+      law.small_still _ _ _ (omega (arith, c.if-full.false)) e c.from.ensures,
       law.one_more_digit _ _ _ t _ _ c.loop-count-test.true e _ c.from.ensures ∙ c.loop-count.invariant.1,
     )
 
