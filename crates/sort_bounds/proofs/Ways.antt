@@ -147,9 +147,13 @@ pub record Going (up : Bool) (ws : List ℕ) (C : Counts) (a b : ℕ) (x y : Run
   pub lhs_start : start_at now a ≡ x.start
   pub rhs_start : start_at now b ≡ y.start
   pub lhs_count : count_at now a ≡ x.count
-  pub more : (C.sorts ≤ K.sorts) × (C.entries ≤ K.entries)
   pub same : bound_domain (not up) now K.sorts K.entries a b k (sort_numbers ids) ≡ bound_domain (not up) ws C.sorts C.entries a b 0 (replicate 16 0)
   pub long : length ids ≡ 16
+
+-- And the list is as long as at the start or longer.
+pub record GoingAndGrown (up : Bool) (ws : List ℕ) (C : Counts) (a b : ℕ) (x y : Run) (now : List ℕ) (K : Counts) (k : ℕ) (ids : List SortId) : Type 0 where
+  pub going : Going up ws C a b x y now K k ids
+  pub more : (C.sorts ≤ K.sorts) × (C.entries ≤ K.entries)
 
 module _ (ws : List ℕ) (C : Counts) (up : Bool) (a b : SortId) (q : Asked ws C.sorts C.entries a.0 b.0) where
   pub itself : a.0 ≡ b.0 → stored_at ws (At a C) ≡ bound_at up ws C.sorts C.entries a.0 b.0
@@ -277,10 +281,12 @@ module _ (ws : List ℕ) (C : Counts) (up : Bool) (a b : SortId) (q : Asked ws C
               lhs_start = ap (λ (r : Run). r.start) lhs_run;
               rhs_start = ap (λ (r : Run). r.start) rhs_run;
               lhs_count = ap (λ (r : Run). r.count) lhs_run;
-              more = (omega arith, omega arith);
               same = ap (bound_domain (not up) ws C.sorts C.entries a.0 b.0 0) (zeros_sort_numbers 16);
               long = refl;
             }
+
+        pub grown_from_start : GoingAndGrown up ws C a.0 b.0 x y ws C 0 (replicate 16 (record { 0 = 0 }))
+        grown_from_start = record { going = going_from_start; more = (omega arith, omega arith) }
 
         module _ (now : List ℕ) (K : Counts) (k : ℕ) (ids : List SortId) (g : Going up ws C a.0 b.0 x y now K k ids) where
           few : x.count ≤ 16
@@ -341,13 +347,15 @@ module _ (ws : List ℕ) (C : Counts) (up : Bool) (a b : SortId) (q : Asked ws C
                       lhs_start = domain.lhs_start_unchanged (not up) now K a.0 b.0 g.functions k (sort_numbers ids) one_left vs (joined L j) by_entries c L at ∙ g.lhs_start;
                       rhs_start = domain.rhs_start_unchanged (not up) now K a.0 b.0 g.functions k (sort_numbers ids) one_left vs (joined L j) by_entries c L at ∙ g.rhs_start;
                       lhs_count = domain.count_unchanged (not up) now K a.0 b.0 g.functions k (sort_numbers ids) one_left vs (joined L j) by_entries c L at ∙ g.lhs_count;
-                      more =
-                          let m = more now K (not up) l.0 r.0 arguments_asked.1 vs L j left c z in
-                          (omega (arith, g.more.0, m.0), omega (arith, g.more.1, m.1));
                       same = ap (bound_domain (not up) vs L.sorts L.entries a.0 b.0 (k + 1)) (set_sort_numbers ids k c)
                           ∙ (domain.domain_goes_on (not up) now K a.0 b.0 g.functions k (sort_numbers ids) one_left vs (joined L j) by_entries c L at ∙ g.same);
                       long = length-set ids k c ∙ g.long;
                     }
+
+                pub grown_on : (C.sorts ≤ K.sorts) × (C.entries ≤ K.entries) → GoingAndGrown up ws C a.0 b.0 x y vs L (k + 1) (set ids k c)
+                grown_on grown =
+                    let m = more now K (not up) l.0 r.0 arguments_asked.1 vs L j left c z in
+                    record { going = going_on; more = (omega (arith, grown.0, m.0), omega (arith, grown.1, m.1)) }
 
           -- all arguments are made
           module _ (within : k ≤ x.count) (over : x.count ≤ k) where
@@ -384,10 +392,11 @@ module _ (ws : List ℕ) (C : Counts) (up : Bool) (a b : SortId) (q : Asked ws C
               by_parts : stored_at us (joined L j) ≡ bound_at up now K.sorts K.entries (part_at ws a.0) (part_at ws b.0)
               by_parts = left_is us L j ∙ (left ∙ ap₂ (bound_at up now K.sorts K.entries) (sym lhs_part) (sym rhs_part))
 
-              pub range_more : (c : SortId) → j ≡ Ok (Some c) → (C.sorts ≤ L.sorts) × (C.entries ≤ L.entries)
-              range_more c z =
+              pub range_more : (C.sorts ≤ K.sorts) × (C.entries ≤ K.entries) → (c : SortId) → j ≡ Ok (Some c)
+                  → (C.sorts ≤ L.sorts) × (C.entries ≤ L.entries)
+              range_more grown c z =
                   let m = more now K up u.0 v.0 range_asked.1 us L j left c z in
-                  (omega (arith, g.more.0, m.0), omega (arith, g.more.1, m.1))
+                  (omega (arith, grown.0, m.0), omega (arith, grown.1, m.1))
 
               pub range_stops : j ≡ Ok None → stored_at us (Nothing L) ≡ bound_at up ws C.sorts C.entries a.0 b.0
               range_stops z =

@@ -93,7 +93,7 @@ bound-loop-k-init t c =
       refl,
       refl,
       c.requires.indexed,
-      way.going_from_start s.words.now s.counts c.args.up c.args.lhs c.args.rhs c.requires.asked
+      way.grown_from_start s.words.now s.counts c.args.up c.args.lhs c.args.rhs c.requires.asked
           c.eq.ensures c.if-eq.false c.get.ensures c.get-2.ensures i.is-0 i.is-1 c.if-lhs_domain-rhs_domain.true,
     )
 
@@ -103,7 +103,7 @@ bound-against-requires t c =
     let i = c.in-Function-Function in
     let h = way.arguments_asked s.words.now s.counts c.args.up c.args.lhs c.args.rhs c.requires.asked
     c.eq.ensures c.if-eq.false c.get.ensures c.get-2.ensures i.is-0 i.is-1 c.if-lhs_domain-rhs_domain.true
-    _ _ _ _ c.loop-k.invariant.3 c.loop-k-test.true _ _ c.argument-lhs_arg.ensures c.argument-rhs_arg.ensures in
+    _ _ _ _ c.loop-k.invariant.3.going c.loop-k-test.true _ _ c.argument-lhs_arg.ensures c.argument-rhs_arg.ensures in
     (omega (arith, c.decreases, h.0), (h.1, c.loop-k.invariant.2))
 
 pub bound-returns-in_err-arg-in-Function-Function-clause-left : goal.bound-returns-in_err-arg-in-Function-Function-clause-left
@@ -112,7 +112,7 @@ bound-returns-in_err-arg-in-Function-Function-clause-left t c =
     let i = c.in-Function-Function in
     way.err_left _ _ _ c.from_residual-in_err-arg-in-Function-Function.ensures.0 ∙ way.arguments_end s.words.now s.counts c.args.up c.args.lhs c.args.rhs c.requires.asked
     c.eq.ensures c.if-eq.false c.get.ensures c.get-2.ensures i.is-0 i.is-1 c.if-lhs_domain-rhs_domain.true
-    _ _ _ _ c.loop-k.invariant.3 c.loop-k-test.true _ _ c.argument-lhs_arg.ensures c.argument-rhs_arg.ensures
+    _ _ _ _ c.loop-k.invariant.3.going c.loop-k-test.true _ _ c.argument-lhs_arg.ensures c.argument-rhs_arg.ensures
     _ _ _ c.against.ensures.left
     c.in_err-arg-in-Function-Function.was
 
@@ -126,7 +126,7 @@ bound-returns-in_default-3-clause-left t c =
     let i = c.in-Function-Function in
     way.arguments_stop s.words.now s.counts c.args.up c.args.lhs c.args.rhs c.requires.asked
     c.eq.ensures c.if-eq.false c.get.ensures c.get-2.ensures i.is-0 i.is-1 c.if-lhs_domain-rhs_domain.true
-    _ _ _ _ c.loop-k.invariant.3 c.loop-k-test.true _ _ c.argument-lhs_arg.ensures c.argument-rhs_arg.ensures
+    _ _ _ _ c.loop-k.invariant.3.going c.loop-k-test.true _ _ c.argument-lhs_arg.ensures c.argument-rhs_arg.ensures
     _ _ _ c.against.ensures.left
     (c.in_ok-arg-in-Function-Function.was ∙ ap Ok c.in_default-3.is)
 
@@ -136,7 +136,7 @@ bound-bounds-domain-k t c =
     let i = c.in-Function-Function in
     way.below_sixteen s.words.now s.counts c.args.up c.args.lhs c.args.rhs c.requires.asked
     c.eq.ensures c.if-eq.false c.get.ensures c.get-2.ensures i.is-0 i.is-1 c.if-lhs_domain-rhs_domain.true
-    _ _ _ _ c.loop-k.invariant.3 c.loop-k-test.true _ _ c.argument-lhs_arg.ensures c.argument-rhs_arg.ensures
+    _ _ _ _ c.loop-k.invariant.3.going c.loop-k-test.true _ _ c.argument-lhs_arg.ensures c.argument-rhs_arg.ensures
 
 pub bound-loop-k-preserved : goal.bound-loop-k-preserved
 bound-loop-k-preserved t c =
@@ -145,11 +145,11 @@ bound-loop-k-preserved t c =
       c.against.ensures.same_reference ∙ c.loop-k.invariant.0,
       c.against.ensures.same_index ∙ c.loop-k.invariant.1,
       c.against.ensures.indexed,
-      way.going_on s.words.now s.counts c.args.up c.args.lhs c.args.rhs c.requires.asked
+      way.grown_on s.words.now s.counts c.args.up c.args.lhs c.args.rhs c.requires.asked
           c.eq.ensures c.if-eq.false c.get.ensures c.get-2.ensures i.is-0 i.is-1 c.if-lhs_domain-rhs_domain.true
-          _ _ _ _ c.loop-k.invariant.3 c.loop-k-test.true _ _ c.argument-lhs_arg.ensures c.argument-rhs_arg.ensures
+          _ _ _ _ c.loop-k.invariant.3.going c.loop-k-test.true _ _ c.argument-lhs_arg.ensures c.argument-rhs_arg.ensures
           _ _ _ c.against.ensures.left
-          _ (c.in_ok-arg-in-Function-Function.was ∙ ap Ok c.in-Some-3.is),
+          _ (c.in_ok-arg-in-Function-Function.was ∙ ap Ok c.in-Some-3.is) c.loop-k.invariant.3.more,
     )
 
 pub bound-bound-requires-in-Function-Function : goal.bound-bound-requires-in-Function-Function
@@ -158,7 +158,7 @@ bound-bound-requires-in-Function-Function t c =
     let i = c.in-Function-Function in
     let h = way.range_asked s.words.now s.counts c.args.up c.args.lhs c.args.rhs c.requires.asked
     c.eq.ensures c.if-eq.false c.get.ensures c.get-2.ensures i.is-0 i.is-1 c.if-lhs_domain-rhs_domain.true
-    _ _ _ _ c.loop-k.invariant.3
+    _ _ _ _ c.loop-k.invariant.3.going
     c.loop-k.auto.k-end c.loop-k-test.false in
     (omega (arith, c.decreases, h.0), (h.1, c.loop-k.invariant.2))
 
@@ -168,7 +168,7 @@ bound-returns-in_err-range-in-Function-Function-clause-left t c =
     let i = c.in-Function-Function in
     way.err_left _ _ _ c.from_residual-in_err-range-in-Function-Function.ensures.0 ∙ way.range_ends s.words.now s.counts c.args.up c.args.lhs c.args.rhs c.requires.asked
     c.eq.ensures c.if-eq.false c.get.ensures c.get-2.ensures i.is-0 i.is-1 c.if-lhs_domain-rhs_domain.true
-    _ _ _ _ c.loop-k.invariant.3
+    _ _ _ _ c.loop-k.invariant.3.going
     c.loop-k.auto.k-end c.loop-k-test.false _ _ _ c.bound-in-Function-Function.ensures.left
     c.in_err-range-in-Function-Function.was
 
@@ -183,7 +183,7 @@ bound-returns-in_default-4-clause-left t c =
     let i = c.in-Function-Function in
     way.range_stops s.words.now s.counts c.args.up c.args.lhs c.args.rhs c.requires.asked
     c.eq.ensures c.if-eq.false c.get.ensures c.get-2.ensures i.is-0 i.is-1 c.if-lhs_domain-rhs_domain.true
-    _ _ _ _ c.loop-k.invariant.3
+    _ _ _ _ c.loop-k.invariant.3.going
     c.loop-k.auto.k-end c.loop-k-test.false _ _ _ c.bound-in-Function-Function.ensures.left
     (c.in_ok-range-in-Function-Function.was ∙ ap Ok c.in_default-4.is)
 
@@ -193,7 +193,7 @@ bound-slice_bounds-domain-end t c =
     let i = c.in-Function-Function in
     way.domain_fits s.words.now s.counts c.args.up c.args.lhs c.args.rhs c.requires.asked
     c.eq.ensures c.if-eq.false c.get.ensures c.get-2.ensures i.is-0 i.is-1 c.if-lhs_domain-rhs_domain.true
-    _ _ _ _ c.loop-k.invariant.3
+    _ _ _ _ c.loop-k.invariant.3.going
     c.loop-k.auto.k-end c.loop-k-test.false
 
 pub bound-slice_bounds-function-end : goal.bound-slice_bounds-function-end
@@ -202,7 +202,7 @@ bound-slice_bounds-function-end t c =
     let i = c.in-Function-Function in
     way.domain_long s.words.now s.counts c.args.up c.args.lhs c.args.rhs c.requires.asked
     c.eq.ensures c.if-eq.false c.get.ensures c.get-2.ensures i.is-0 i.is-1 c.if-lhs_domain-rhs_domain.true
-    _ _ _ _ c.loop-k.invariant.3
+    _ _ _ _ c.loop-k.invariant.3.going
     c.loop-k.auto.k-end c.loop-k-test.false
 
 pub bound-function-requires-clause-fine : goal.bound-function-requires-clause-fine
@@ -211,7 +211,7 @@ bound-function-requires-clause-fine t c =
     let i = c.in-Function-Function in
     way.function_asked s.words.now s.counts c.args.up c.args.lhs c.args.rhs c.requires.asked
     c.eq.ensures c.if-eq.false c.get.ensures c.get-2.ensures i.is-0 i.is-1 c.if-lhs_domain-rhs_domain.true
-    _ _ _ _ c.loop-k.invariant.3
+    _ _ _ _ c.loop-k.invariant.3.going
     c.loop-k.auto.k-end c.loop-k-test.false _ _ _ c.bound-in-Function-Function.ensures.left
     _ (c.in_ok-range-in-Function-Function.was ∙ ap Ok c.in-Some-4.is)
 
@@ -222,7 +222,7 @@ bound-returns-in_err-function-in-Function-Function-clause-left t c =
     way.err_left _ _ _ c.from_residual-in_err-function-in-Function-Function.ensures.0
     ∙ (way.full_of c.function.new.self.words.now c.function.new.self.counts c.function.result c.in_err-function-in-Function-Function.was ∙ way.function_made s.words.now s.counts c.args.up c.args.lhs c.args.rhs c.requires.asked
     c.eq.ensures c.if-eq.false c.get.ensures c.get-2.ensures i.is-0 i.is-1 c.if-lhs_domain-rhs_domain.true
-    _ _ _ _ c.loop-k.invariant.3
+    _ _ _ _ c.loop-k.invariant.3.going
     c.loop-k.auto.k-end c.loop-k-test.false _ _ _ c.bound-in-Function-Function.ensures.left
     _ (c.in_ok-range-in-Function-Function.was ∙ ap Ok c.in-Some-4.is) c.function.new.self.words.now c.function.new.self.counts c.function.result c.function.ensures.interned)
 
@@ -233,14 +233,14 @@ bound-returns-in_err-function-in-Function-Function-clause-usable t c =
     way.err_usable _ (way.usable_kept _ _ s.counts _ _
     (way.function_asked s.words.now s.counts c.args.up c.args.lhs c.args.rhs c.requires.asked
     c.eq.ensures c.if-eq.false c.get.ensures c.get-2.ensures i.is-0 i.is-1 c.if-lhs_domain-rhs_domain.true
-    _ _ _ _ c.loop-k.invariant.3
+    _ _ _ _ c.loop-k.invariant.3.going
     c.loop-k.auto.k-end c.loop-k-test.false _ _ _ c.bound-in-Function-Function.ensures.left
     _ (c.in_ok-range-in-Function-Function.was ∙ ap Ok c.in-Some-4.is)).0
     (way.range_more s.words.now s.counts c.args.up c.args.lhs c.args.rhs c.requires.asked
     c.eq.ensures c.if-eq.false c.get.ensures c.get-2.ensures i.is-0 i.is-1 c.if-lhs_domain-rhs_domain.true
-    _ _ _ _ c.loop-k.invariant.3
+    _ _ _ _ c.loop-k.invariant.3.going
     c.loop-k.auto.k-end c.loop-k-test.false _ _ _ c.bound-in-Function-Function.ensures.left
-    _ (c.in_ok-range-in-Function-Function.was ∙ ap Ok c.in-Some-4.is))
+    c.loop-k.invariant.3.more _ (c.in_ok-range-in-Function-Function.was ∙ ap Ok c.in-Some-4.is))
     (way.at_err _ c.in_err-function-in-Function-Function.was c.function.ensures.kept))
 
 pub bound-returns-in-Primitive-Primitive-clause-left : goal.bound-returns-in-Primitive-Primitive-clause-left
@@ -266,7 +266,7 @@ bound-returns-in_ok-function-in-Function-Function-clause-left t c =
     let i = c.in-Function-Function in
     way.made_of c.function.new.self.words.now c.function.new.self.counts c.function.result c.in_ok-function-in-Function-Function.was ∙ way.function_made s.words.now s.counts c.args.up c.args.lhs c.args.rhs c.requires.asked
     c.eq.ensures c.if-eq.false c.get.ensures c.get-2.ensures i.is-0 i.is-1 c.if-lhs_domain-rhs_domain.true
-    _ _ _ _ c.loop-k.invariant.3
+    _ _ _ _ c.loop-k.invariant.3.going
     c.loop-k.auto.k-end c.loop-k-test.false _ _ _ c.bound-in-Function-Function.ensures.left
     _ (c.in_ok-range-in-Function-Function.was ∙ ap Ok c.in-Some-4.is) c.function.new.self.words.now c.function.new.self.counts c.function.result c.function.ensures.interned
 

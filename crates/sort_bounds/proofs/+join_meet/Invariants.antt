@@ -2,7 +2,7 @@
 -- the k-th arguments the list has grown, its index with it, and the rest comes to the whole. Assumes nothing.
 use Rattle.std.proofs.Common.{◌≡◌, ◌+◌, ◌*◌}
 use Rattle.resolved_sort.specs.Index.{Indexed}
-use Rattle.sort_bounds.proofs.Ways.{Going}
+use Rattle.sort_bounds.proofs.Ways.{GoingAndGrown}
 use Rattle.sort_bounds.proofs.+join_meet.Given as goal
 
 abbrev pub decreases-bound : goal.decreases-bound
@@ -22,5 +22,5 @@ invariant-bound-loop-k l =
     (l.sorts.words.ghost_name ≡ l.initial.sorts.words.ghost_name)
     × (l.sorts.index.ghost_name ≡ l.initial.sorts.index.ghost_name)
     × Indexed l.sorts.words.now l.sorts.counts.sorts l.sorts.index.now
-    × Going l.up l.initial.sorts.words.now l.initial.sorts.counts l.fn.lhs.0 l.fn.rhs.0 l.lhs_domain l.rhs_domain
+    × GoingAndGrown l.up l.initial.sorts.words.now l.initial.sorts.counts l.fn.lhs.0 l.fn.rhs.0 l.lhs_domain l.rhs_domain
     l.sorts.words.now l.sorts.counts l.k l.domain
